@@ -1,0 +1,3 @@
+-- The definitions that the contracts of `address` cite, and their laws.
+pub mod Address
+pub mod RoundLaws

@@ -1,0 +1,82 @@
+// The two countings of a load: physical addresses, and offsets in the image. Neither turns into the other here.
+ghost use mathlib.Core.Path.{_≡_};
+ghost use Prim.Native.Nat.{_<_, _^_};
+ghost use lib.Dec.{ltb};
+ghost use Rattle.address.specs.Address.{top, boundaryOf, floor, roundUp, inside};
+
+// A physical address, or the end of a span of them: an exact whole number.
+pub struct PhysAddr(pub u64);
+
+// A place in the image, counted from its first byte.
+pub struct ImageOffset(pub usize);
+
+// The addresses from start up to but not including end.
+pub struct Span {
+    pub start: PhysAddr,
+    pub end: PhysAddr,
+}
+
+impl PhysAddr {
+    // The page size, which page-aligned modules meet.
+    pub const PAGE: u64 = 4096;
+
+    // The boundary of every other item.
+    pub const WORD: u64 = 4;
+
+    // Items are placed from here up.
+    pub const FLOOR: u64 = 0x100000;
+
+    // A window ends here at the latest.
+    pub const TOP: u64 = 0xFFFFF000;
+
+    // The boundary of an item: the page size where pages are asked for, else four bytes.
+    pub fn boundary(pages: bool) -> u64
+        ensures { λ r. ⌜ r ≡ boundaryOf pages ⌝ }
+    {
+        if pages {
+            PhysAddr::PAGE
+        } else {
+            PhysAddr::WORD
+        }
+    }
+
+    // The lowest multiple of the boundary that is not below the address.
+    pub fn round_up(self, boundary: u64) -> PhysAddr
+        requires { ⌜ (0 < boundary) × (roundUp (self .0) boundary < 2 ^ 64) ⌝ }
+        ensures { λ r. ⌜ r .0 ≡ roundUp (self .0) boundary ⌝ }
+    {
+        let rest = self.0 % boundary;
+        if rest == 0 {
+            self
+        } else {
+            PhysAddr(self.0 + (boundary - rest))
+        }
+    }
+
+    // The lowest multiple of the boundary from the floor up.
+    pub fn lowest(boundary: u64) -> PhysAddr
+        requires { ⌜ (0 < boundary) × (roundUp floor boundary < 2 ^ 64) ⌝ }
+        ensures { λ r. ⌜ r .0 ≡ roundUp floor boundary ⌝ }
+    {
+        PhysAddr(PhysAddr::FLOOR).round_up(boundary)
+    }
+
+    // Whether the address is above the top.
+    pub fn past_top(self) -> bool
+        ensures { λ r. ⌜ r ≡ ltb top (self .0) ⌝ }
+    {
+        PhysAddr::TOP < self.0
+    }
+}
+
+impl Span {
+    // Whether the address lies in the span.
+    pub fn contains(self, a: PhysAddr) -> bool
+        ensures { λ r. ⌜ r ≡ inside (self .start .0) (self .end .0) (a .0) ⌝ }
+    {
+        if a.0 < self.start.0 {
+            return false;
+        }
+        a.0 < self.end.0
+    }
+}

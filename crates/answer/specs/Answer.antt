@@ -1,0 +1,47 @@
+-- The numbers and items of the answers.                     rule: the table of numbered answers
+--     numberOf    0 for a load, else the number of the refusal
+--     itemOf      the module's index for 16, else 0
+-- Assumes nothing.
+use Prim.Native.Nat.{ℕ}
+use Rattle.answer.specs.declared.Answer.{Answer}
+use Rattle.answer.specs.declared.Answer.the-variants.{Load, NotASubmission, BadSubmission, BadOperatorLine, WindowPastTop, BadMemoryMap, NoHeader, UnknownRequest, NoAddressFields, HeaderCutOff, LoadBeforeImage, NothingToLoad, LoadPastImage, BssBelowLoadEnd, EntryOutsideLoad, KernelNotOpen, NoRoomForModule, NoRoomForInformation}
+
+abbrev pub numberOf : Answer → ℕ
+numberOf Load = 0
+numberOf NotASubmission = 1
+numberOf BadSubmission = 2
+numberOf BadOperatorLine = 3
+numberOf WindowPastTop = 4
+numberOf BadMemoryMap = 5
+numberOf NoHeader = 6
+numberOf UnknownRequest = 7
+numberOf NoAddressFields = 8
+numberOf HeaderCutOff = 9
+numberOf LoadBeforeImage = 10
+numberOf NothingToLoad = 11
+numberOf LoadPastImage = 12
+numberOf BssBelowLoadEnd = 13
+numberOf EntryOutsideLoad = 14
+numberOf KernelNotOpen = 15
+numberOf (NoRoomForModule i) = 16
+numberOf NoRoomForInformation = 17
+
+abbrev pub itemOf : Answer → ℕ
+itemOf Load = 0
+itemOf NotASubmission = 0
+itemOf BadSubmission = 0
+itemOf BadOperatorLine = 0
+itemOf WindowPastTop = 0
+itemOf BadMemoryMap = 0
+itemOf NoHeader = 0
+itemOf UnknownRequest = 0
+itemOf NoAddressFields = 0
+itemOf HeaderCutOff = 0
+itemOf LoadBeforeImage = 0
+itemOf NothingToLoad = 0
+itemOf LoadPastImage = 0
+itemOf BssBelowLoadEnd = 0
+itemOf EntryOutsideLoad = 0
+itemOf KernelNotOpen = 0
+itemOf (NoRoomForModule i) = i
+itemOf NoRoomForInformation = 0

@@ -1,0 +1,2 @@
+-- The definitions that the contracts of `answer` cite.
+pub mod Answer

@@ -1,0 +1,59 @@
+-- What proves that an answer is the first of a chain of checks: `search chain depth 20`.
+--     chain            the rule set
+--     firstOf-append   a chain goes on where its first part ends
+-- Assumes nothing.
+use mathlib.Core.Path.{_≡_, refl}
+use mathlib.Core.Bool.{Bool, true, false, cond, not, _&&_, _||_}
+use mathlib.Core.List.{List, [], _∷_, _++_}
+use borrow.Author.Tests.{lt-ltb, le-ltb, le-leb, lt-leb, eq-eqb, ne-eqb}
+use Rattle.laws.specs.Checks.{Check, firstOf}
+
+module _ {A : Type 0} where
+  -- a chain goes on where its first part ends
+  pub firstOf-append : (ks ls : List (Check A)) (z : A) → firstOf (ks ++ ls) z ≡ firstOf ks (firstOf ls z)
+  unfolding firstOf
+  firstOf-append [] ls z = refl
+  firstOf-append (k ∷ ks) ls z = rw (firstOf-append ks ls z) refl
+
+  -- none applies
+  pub none : (a z : A) → a ≡ z → a ≡ firstOf [] z
+  unfolding firstOf
+  none a z e = e
+
+  -- the first applies
+  pub here : (t : Bool) (a z : A) (ks : List (Check A)) → t ≡ true → a ≡ firstOf (record { applies = t; answer = a } ∷ ks) z
+  unfolding firstOf
+  here t a z ks e = rw e refl
+
+  -- the first does not apply
+  pub on : (t : Bool) (a b z : A) (ks : List (Check A)) → t ≡ false → a ≡ firstOf ks z → a ≡ firstOf (record { applies = t; answer = b } ∷ ks) z
+  unfolding firstOf
+  on t a b z ks e h = rw e h
+
+pub or-left : (a b : Bool) → a ≡ true → (a || b) ≡ true
+or-left a b e = rw e refl
+
+pub or-right : (a b : Bool) → b ≡ true → (a || b) ≡ true
+or-right true b e = refl
+or-right false b e = e
+
+pub or-none : (a b : Bool) → a ≡ false → b ≡ false → (a || b) ≡ false
+or-none a b e f = rw e f
+
+pub and-both : (a b : Bool) → a ≡ true → b ≡ true → (a && b) ≡ true
+and-both a b e f = rw e f
+
+pub and-left : (a b : Bool) → a ≡ false → (a && b) ≡ false
+and-left a b e = rw e refl
+
+pub and-right : (a b : Bool) → b ≡ false → (a && b) ≡ false
+and-right true b e = e
+and-right false b e = refl
+
+pub not-to-true : (a : Bool) → a ≡ false → not a ≡ true
+not-to-true a e = rw e refl
+
+pub not-to-false : (a : Bool) → a ≡ true → not a ≡ false
+not-to-false a e = rw e refl
+
+pub ruleset chain = (none, here, on, or-left, or-right, or-none, and-both, and-left, and-right, not-to-true, not-to-false, lt-ltb, le-ltb, le-leb, lt-leb, eq-eqb, ne-eqb)

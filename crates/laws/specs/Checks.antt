@@ -1,0 +1,19 @@
+-- Checks in order, of which the first that applies gives the answer.
+--     Check      a test, and the answer where it applies; written `test gives answer`
+--     firstOf    the answer of the first check that applies
+-- Assumes nothing.
+use mathlib.Core.Bool.{Bool, cond}
+use mathlib.Core.List.{List, [], _∷_}
+
+pub record Check (A : Type 0) : Type 0 where
+  pub applies : Bool
+  pub answer : A
+
+infix 70 _gives_
+abbrev pub _gives_ : {A : Type 0} → Bool → A → Check A
+_gives_ t a = record { applies = t; answer = a }
+
+-- the answer of the first check that applies, or `last` where none does
+unfoldable pub firstOf : {A : Type 0} → List (Check A) → A → A
+firstOf [] last = last
+firstOf (k ∷ ks) last = let r = firstOf ks last in cond (k .applies) (k .answer) r

@@ -1,0 +1,7 @@
+-- Definitions over tests, and their laws, for the other crates' specifications.
+pub mod Tests
+pub mod TestLaws
+pub mod First
+pub mod FirstLaws
+pub mod Checks
+pub mod CheckLaws

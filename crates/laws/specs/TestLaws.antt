@@ -1,0 +1,120 @@
+-- Laws of tests over a range of numbers.
+--     any-here, any-at, any-none, none-any    some number passes, or none does
+--     any-more, any-same                      one number more; tests that agree
+--     all-intro, all-elim, all-not            each number passes, or one does not
+--     run-is, run-to                          where a run ends
+-- Assumes nothing.
+use Prim.Native.Nat.{ℕ, zero, suc, _+_, _-_, _≤_, _<_}
+use mathlib.Core.Path.{_≡_, refl, sym, ap, _∙_}
+use mathlib.Core.Bool.{Bool, true, false, cond, _&&_, _||_, or-true, false≢true}
+use mathlib.Core.Logic.{⊎-elim, _⊎_, inl, inr}
+use native.Mathlib.Nat.{eq-or-lt-of-le, le-of-suc-le-suc, add-zero}
+use native.Mathlib.Numerals.{add-one}
+use native.Mathlib.Omega.{arith}
+use borrow.Author.Tests.{leb-true, leb-false}
+use lib.Dec.{leb}
+use Rattle.laws.specs.Tests.{any, allFrom, run}
+
+-- a test is true or false
+pub true-or-false : (t : Bool) → (t ≡ true) ⊎ (t ≡ false)
+true-or-false true = inl refl
+true-or-false false = inr refl
+
+pub or-cases : (s t : Bool) → s || t ≡ true → (s ≡ true) ⊎ (t ≡ true)
+or-cases true t e = inl refl
+or-cases false t e = inr e
+
+pub or-none-left : (s t : Bool) → s || t ≡ false → s ≡ false
+or-none-left true t e = e
+or-none-left false t e = refl
+
+pub or-none-right : (s t : Bool) → s || t ≡ false → t ≡ false
+or-none-right true true e = e
+or-none-right true false e = refl
+or-none-right false t e = e
+
+pub and-left : (s t : Bool) → s && t ≡ true → s ≡ true
+and-left true t e = refl
+and-left false t e = e
+
+pub and-right : (s t : Bool) → s && t ≡ true → t ≡ true
+and-right true t e = e
+and-right false true e = refl
+and-right false false e = e
+
+-- an order of two numbers, decided
+pub lt-or-le : (a b : ℕ) → (a < b) ⊎ (b ≤ a)
+lt-or-le a b = ⊎-elim (λ t. inr (leb-true b a t)) (λ t. inl (leb-false b a t)) (true-or-false (leb b a))
+
+-- a number below suc k is below k, or is k
+below-suc : (i k : ℕ) → i < suc k → (i ≡ k) ⊎ (i < k)
+below-suc i k l = eq-or-lt-of-le (le-of-suc-le-suc l)
+
+module _ (f : ℕ → Bool) where
+  pub any-zero : any f 0 ≡ false
+  unfolding any
+  any-zero = refl
+
+  -- one index more, as a loop counts
+  pub any-more : (k : ℕ) → any f (k + 1) ≡ any f k || f k
+  unfolding any
+  any-more k = rw add-one
+
+  pub any-here : (k i : ℕ) → i < k → f i ≡ true → any f k ≡ true
+  unfolding any
+  any-here zero i l e = absurd (omega arith)
+  any-here (suc k) i l e = ⊎-elim (λ q. rw (← q, e) (or-true (any f i))) (λ m. rw (any-here k i m e)) (below-suc i k l)
+
+  pub any-at : (k : ℕ) → any f k ≡ true → (i : ℕ) × (i < k) × (f i ≡ true)
+  unfolding any
+  any-at zero e = absurd (false≢true e)
+  any-at (suc k) e = ⊎-elim (λ p. let r = any-at k p in (r .0, omega arith, r .2)) (λ p. (k, omega arith, p)) (or-cases (any f k) (f k) e)
+
+  pub any-none : (k : ℕ) → ((i : ℕ) → i < k → f i ≡ false) → any f k ≡ false
+  unfolding any
+  any-none zero h = refl
+  any-none (suc k) h = rw (any-none k (λ i l. h i (omega arith))) (h k (omega arith))
+
+  pub none-any : (k : ℕ) → any f k ≡ false → (i : ℕ) → i < k → f i ≡ false
+  unfolding any
+  none-any zero e i l = absurd (omega arith)
+  none-any (suc k) e i l =
+      ⊎-elim (λ q. rw q (or-none-right (any f k) (f k) e)) (λ m. none-any k (or-none-left (any f k) (f k) e) i m) (below-suc i k l)
+
+-- tests that agree below k
+pub any-same : (f g : ℕ → Bool) (k : ℕ) → ((i : ℕ) → i < k → f i ≡ g i) → any f k ≡ any g k
+unfolding any
+any-same f g zero h = refl
+any-same f g (suc k) h = rw (any-same f g k (λ i l. h i (omega arith)), h k (omega arith))
+
+module _ (f : ℕ → Bool) (a : ℕ) where
+  pub all-intro : (n : ℕ) → ((y : ℕ) → a ≤ y → y < a + n → f y ≡ true) → allFrom f a n ≡ true
+  unfolding allFrom
+  all-intro zero h = refl
+  all-intro (suc n) h = rw (all-intro n (λ y l m. h y l (omega arith))) (h (a + n) (omega arith) (omega arith))
+
+  pub all-elim : (n : ℕ) → allFrom f a n ≡ true → (y : ℕ) → a ≤ y → y < a + n → f y ≡ true
+  unfolding allFrom
+  all-elim zero e y l m = absurd (omega arith)
+  all-elim (suc n) e y l m =
+      ⊎-elim
+      (λ q. rw q (and-right (allFrom f a n) (f (a + n)) e))
+      (λ r. all-elim n (and-left (allFrom f a n) (f (a + n)) e) y l r)
+      (below-suc y (a + n) (omega arith))
+
+  -- a number of the range that does not pass
+  pub all-not : (n y : ℕ) → a ≤ y → y < a + n → f y ≡ false → allFrom f a n ≡ false
+  all-not n y l m e = ⊎-elim (λ t. absurd (false≢true (sym e ∙ all-elim n t y l m))) (λ t. t) (true-or-false (allFrom f a n))
+
+-- the run is c long where the c first pass and the next, if there is one, does not
+pub run-is : (f : ℕ → Bool) (k a c : ℕ) → c ≤ k → ((y : ℕ) → a ≤ y → y < a + c → f y ≡ true) → (c < k → f (a + c) ≡ false) → run f a k ≡ c
+unfolding run
+run-is f zero a c l p q = omega arith
+run-is f (suc k) a zero l p q = let e : f a ≡ false = rw add-zero at (q (omega arith)) in rw e
+run-is f (suc k) a (suc c) l p q = rw (p a (omega arith) (omega arith)) (ap suc (run-is f k (suc a) c (omega arith) (λ y u v. p y (omega arith) (omega arith)) (λ u. let e : suc a + c ≡ a + suc c = omega arith in rw e (q (omega arith)))))
+
+-- the same by the number at which the run ends
+pub run-to : (f : ℕ → Bool) (a x k : ℕ) → a ≤ x → x ≤ k → ((y : ℕ) → a ≤ y → y < x → f y ≡ true) → (x < k → f x ≡ false) → x - a ≡ run f a (k - a)
+run-to f a x k l m p q =
+    sym
+    (run-is f (k - a) a (x - a) (omega arith) (λ y u v. p y u (omega arith)) (λ u. let e : a + (x - a) ≡ x = omega arith in rw e (q (omega arith))))

@@ -1,0 +1,21 @@
+-- Tests over a range of numbers.
+--     any f k          f passes at some number below k
+--     allFrom f a n    f passes at each of the n numbers from a on
+--     run f a k        how many of the k numbers from a on pass one after the other, from the first
+-- `allFrom` and `run` stay shut elsewhere: their laws are what is known of them, so that no check goes through a range of
+-- addresses. `any` opens, for examples with few entries.
+-- Assumes nothing.
+use Prim.Native.Nat.{ℕ, zero, suc, _+_}
+use mathlib.Core.Bool.{Bool, true, false, cond, _&&_, _||_}
+
+unfoldable pub any : (ℕ → Bool) → ℕ → Bool
+any f zero = false
+any f (suc k) = any f k || f k
+
+unfoldable pub allFrom : (ℕ → Bool) → ℕ → ℕ → Bool
+allFrom f a zero = true
+allFrom f a (suc n) = allFrom f a n && f (a + n)
+
+unfoldable pub run : (ℕ → Bool) → ℕ → ℕ → ℕ
+run f a zero = 0
+run f a (suc k) = let r = run f (suc a) k in cond (f a) (suc r) 0

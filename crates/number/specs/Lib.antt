@@ -1,0 +1,3 @@
+-- The definitions that the contracts of `number` cite, and their laws.
+pub mod Number
+pub mod NumberLaws

@@ -1,0 +1,77 @@
+// Little-endian numbers in lent bytes.
+ghost use mathlib.Core.Path.{_≡_};
+ghost use Prim.Native.Nat.{_+_, _*_, _^_, _≤_, _<_};
+ghost use lib.ListN.{length};
+ghost use Rattle.memory.specs.Patched.{patched};
+ghost use Rattle.number.specs.Number.{numberAt, numberBytes, wordBytes};
+
+// The number of `width` bytes at the offset `at`, lowest byte first.
+pub fn read_le(s: &[u8], at: usize, width: usize) -> u64
+    requires { ⌜ (width ≤ 8) × (at + width ≤ length (now s)) ⌝ }
+    ensures { λ r. ⌜ (r ≡ numberAt width (now (s .entry)) at) × (r < 2 ^ (8 * width)) ⌝ }
+{
+    let mut value: u64 = 0;
+    let mut i = width;
+    while 0 < i {
+        i -= 1;
+        value = value * 256 + wide(s[at + i]);
+    }
+    value
+}
+
+fn wide(x: u8) -> u64
+    ensures { λ r. ⌜ r ≡ x ⌝ }
+{
+    x as u64
+}
+
+pub fn read_u16(s: &[u8], at: usize) -> u16
+    requires { ⌜ at + 2 ≤ length (now s) ⌝ }
+    ensures { λ r. ⌜ r ≡ numberAt 2 (now (s .entry)) at ⌝ }
+{
+    read_le(s, at, 2) as u16
+}
+
+pub fn read_u32(s: &[u8], at: usize) -> u32
+    requires { ⌜ at + 4 ≤ length (now s) ⌝ }
+    ensures { λ r. ⌜ r ≡ numberAt 4 (now (s .entry)) at ⌝ }
+{
+    read_le(s, at, 4) as u32
+}
+
+pub fn read_u64(s: &[u8], at: usize) -> u64
+    requires { ⌜ at + 8 ≤ length (now s) ⌝ }
+    ensures { λ r. ⌜ r ≡ numberAt 8 (now (s .entry)) at ⌝ }
+{
+    read_le(s, at, 8)
+}
+
+// Writes x into dst at the offset `at`, lowest byte first; what would fall past the end is left out.
+pub fn write_u32(dst: &mut [u8], at: usize, x: u32)
+    ensures { λ _. ⌜ now (dst .exit) ≡ patched (now (dst .entry)) at (numberBytes 4 x) ⌝ }
+{
+    let x1 = x / 256;
+    let x2 = x1 / 256;
+    let x3 = x2 / 256;
+    let bytes = [
+        (x % 256) as u8,
+        (x1 % 256) as u8,
+        (x2 % 256) as u8,
+        (x3 % 256) as u8,
+    ];
+    memory::write_bytes(dst, at, &bytes);
+}
+
+// Writes a row of words into dst from the offset `at` on, four bytes each; what would fall past the end is left out.
+pub fn write_words(dst: &mut [u8], at: usize, words: &[u32])
+    ensures { λ _. ⌜ now (dst .exit) ≡ patched (now (dst .entry)) at (wordBytes (now (words .entry))) ⌝ }
+{
+    if dst.len() <= at {
+        return;
+    }
+    let mut i = 0;
+    while i < words.len() {
+        write_u32(dst, at + 4 * i, words[i]);
+        i += 1;
+    }
+}
