@@ -20,9 +20,9 @@ pub fn write_bytes(dst: &mut [u8], at: usize, src: &[u8])
 pub fn write_zeros(dst: &mut [u8], at: usize, count: usize)
     ensures { λ _. ⌜ now (dst .exit) ≡ patched (now (dst .entry)) at (zeros count) ⌝ }
 {
-    let n = room(dst.len(), at, count);
-    if 0 < n {
-        let end = at + n;
+    let count = room(dst.len(), at, count);
+    if 0 < count {
+        let end = at + count;
         clear(&mut dst[at..end]);
     }
 }

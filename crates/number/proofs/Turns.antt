@@ -3,7 +3,6 @@
 use mathlib.Core.Path.{_≡_, refl, ap, sym, _∙_}
 use mathlib.Core.List.{List, [], _∷_, _++_, append-assoc, append-nil}
 use Prim.Native.Nat.{ℕ, zero, suc, _+_, _*_, _-_, _^_, _≤_, _<_}
-use native.Mathlib.Nat.{sub-self}
 use native.Mathlib.Numerals.{add-one}
 use native.Mathlib.Omega.{arith}
 use lib.ListN.{length, take, drop, getD}
@@ -13,27 +12,26 @@ use Rattle.memory.specs.PatchedLaws.{patched-append}
 use Rattle.number.specs.Number.{number, numberBytes, wordBytes}
 use Rattle.number.specs.NumberLaws.{number-more, number-bound, number-fits, length-wordBytes, Bytes, bytes-drop}
 
--- the read goes from the highest byte to the lowest; `value` is what the bytes from i on make
-module _ (s : List ℕ) (at width i value : ℕ) (e : value ≡ number (width - i) (drop (at + i) s)) where
-  pub read-more : 0 < i → i ≤ width → value * 256 + getD s (at + (i - 1)) 0 ≡ number (width - (i - 1)) (drop (at + (i - 1)) s)
-  read-more p h =
-      let n : width - (i - 1) ≡ suc (width - i) = omega arith in
-      let m : suc (at + (i - 1)) ≡ at + i = omega arith in
-      rw (n, number-more, m, e) (omega arith)
+-- the read goes from the highest byte to the lowest; `value` is what the last i of the bytes make
+module _ (s : List ℕ) (at width i value : ℕ) (e : value ≡ number i (drop (at + (width - i)) s)) where
+  pub read-more : i < width → value * 256 + getD s (at + (width - (i + 1))) 0 ≡ number (i + 1) (drop (at + (width - (i + 1))) s)
+  read-more h =
+      let m : suc (at + (width - (i + 1))) ≡ at + (width - i) = omega arith in
+      rw (add-one i, number-more, ← add-one i, m, e) (omega arith)
 
   -- with a byte to come, the value has room for one more
-  pub read-room : Bytes s → width ≤ 8 → 0 < i → value < 2 ^ 56
-  read-room b h p = rw e (number-fits (width - i) 7 (drop (at + i) s) (omega arith) (bytes-drop (at + i) s b))
+  pub read-room : Bytes s → width ≤ 8 → i < width → value < 2 ^ 56
+  read-room b h l = rw e (number-fits i 7 (drop (at + (width - i)) s) (omega arith) (bytes-drop (at + (width - i)) s b))
 
-  pub read-all : i ≤ 0 → value ≡ number width (drop at s)
-  read-all h =
-      let n : width - i ≡ width = omega arith in
-      let m : at + i ≡ at = omega arith in
-      rw (n, m) at e
+  pub read-all : i ≤ width → width ≤ i → value ≡ number width (drop at s)
+  read-all h l =
+      let n : i ≡ width = omega arith in
+      let m : at + (width - i) ≡ at = omega arith in
+      rw (m, n) at e
 
-pub read-none : (w : ℕ) (s : List ℕ) → 0 ≡ number (w - w) s
+pub read-none : (s : List ℕ) → 0 ≡ number 0 s
 unfolding number
-read-none w s = rw sub-self refl
+read-none s = refl
 
 words-more : (ws : List ℕ) (i : ℕ) → i < length ws → wordBytes (take (suc i) ws) ≡ wordBytes (take i ws) ++ numberBytes 4 (getD ws i 0)
 unfolding wordBytes

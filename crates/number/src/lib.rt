@@ -11,16 +11,16 @@ pub fn read_le(s: &[u8], at: usize, width: usize) -> u64
     ensures { λ r. ⌜ (r ≡ numberAt width (now (s .entry)) at) × (r < 2 ^ (8 * width)) ⌝ }
 {
     let mut value: u64 = 0;
-    let mut i = width;
-    while 0 < i {
-        i -= 1;
-        value = value * 256 + wide(s[at + i]);
+    let mut i = 0;
+    while i < width {
+        i += 1;
+        value = value * 256 + wide(s[at + (width - i)]);
     }
     value
 }
 
 fn wide(x: u8) -> u64
-    ensures { λ r. ⌜ r ≡ x ⌝ }
+    ensures { λ r. ⌜ (r ≡ x) × (r < 256) ⌝ }
 {
     x as u64
 }

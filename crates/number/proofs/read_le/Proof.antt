@@ -1,4 +1,4 @@
--- `number::read_le` meets its contract. The loop's invariant: the value is the number of the bytes from i on.
+-- `number::read_le` meets its contract. The loop's invariant: the value is the number of the last i bytes.
 -- Assumes nothing.
 use mathlib.Core.Path.{_≡_}
 use Prim.Native.Nat.{ℕ, _+_, _-_, _^_, _≤_, _<_}
@@ -12,16 +12,16 @@ use Rattle.number.proofs.read_le.Statement.{statement}
 use Rattle.number.proofs.read_le.Tie as tie
 
 abbrev Inv-loop : tie.InvT-loop
-Inv-loop s at width value₀ i₀ value i = (i ≤ width) × (value ≡ number (width - i) (drop (at + i) s))
+Inv-loop s at width value₀ i₀ value i = (i ≤ width) × (value ≡ number i (drop (at + (width - i)) s))
 
 abbrev μ-loop : tie.MeasureT-loop
-μ-loop s at width value₀ i₀ value i = i
+μ-loop s at width value₀ i₀ value i = width - i
 
 loop-holds : tie.Need-loop-holds Inv-loop μ-loop
-loop-holds c = (search needs, read-none _ _)
+loop-holds c = (search needs, read-none _)
 
-sub-i : tie.Need-sub-i Inv-loop μ-loop
-sub-i c = search needs
+add-i : tie.Need-add-i Inv-loop μ-loop
+add-i c = search needs
 
 -- the bytes of the slice are bytes
 is-bytes : (c : tie.In-loop Inv-loop μ-loop) → Bytes (c .before .before .before .args .s .now)
@@ -36,6 +36,9 @@ bounded c =
 mul-value : tie.Need-mul-value Inv-loop μ-loop
 mul-value c = omega (arith, bounded c)
 
+sub-wide : tie.Need-sub-wide Inv-loop μ-loop
+sub-wide c = search needs
+
 add-wide : tie.Need-add-wide Inv-loop μ-loop
 add-wide c = search needs
 
@@ -46,7 +49,7 @@ wide-requires : tie.Need-wide-requires Inv-loop μ-loop
 wide-requires c κs = search needs
 
 add-value : tie.Need-add-value Inv-loop μ-loop
-add-value c = omega (arith, bounded (c .before .before), is-bytes (c .before .before) (c .before .before .before .before .before .args .at + (c .before .before .before .loop .i - 1)))
+add-value c = omega (arith, bounded (c .before .before))
 
 loop-less : tie.Need-loop-less Inv-loop μ-loop
 loop-less c = search needs
@@ -56,7 +59,7 @@ loop-again c =
     let at-loop = c .before .before .before in
     let at-start = at-loop .before .before in (
       search needs,
-      cc (read-more (at-start .args .s .now) (at-start .args .at) (at-start .args .width) (at-loop .loop .i) (at-loop .loop .value) (at-loop .loop .inv .1) (c .before .before .loop-test .taken) (at-loop .loop .inv .0)),
+      cc (read-more (at-start .args .s .now) (at-start .args .at) (at-start .args .width) (at-loop .loop .i) (at-loop .loop .value) (at-loop .loop .inv .1) (c .before .before .loop-test .taken)),
     )
 
 returns : tie.Need-returns Inv-loop μ-loop
@@ -64,7 +67,7 @@ returns c =
     let at-loop = c .before in
     let at-start = at-loop .before .before in
     let s = at-start .args .s .now in
-    let e = read-all s (at-start .args .at) (at-start .args .width) (at-loop .loop .i) (at-loop .loop .value) (at-loop .loop .inv .1) (c .loop-test .left) in
+    let e = read-all s (at-start .args .at) (at-start .args .width) (at-loop .loop .i) (at-loop .loop .value) (at-loop .loop .inv .1) (at-loop .loop .inv .0) (c .loop-test .left) in
     (e, rw e (number-bound (at-start .args .width) (drop (at-start .args .at) s) (bytes-drop (at-start .args .at) s (λ i. at-loop .before .shared-slice-known .given i .fits))))
 
 pub read-le-spec : {M : Type 1} → statement M
@@ -74,8 +77,9 @@ read-le-spec =
     Inv-loop
     μ-loop
     loop-holds
-    sub-i
+    add-i
     mul-value
+    sub-wide
     add-wide
     shared-slice-read-wide
     wide-requires
