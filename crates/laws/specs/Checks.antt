@@ -1,8 +1,9 @@
 -- Checks in order, of which the first that applies gives the answer.
 --     Check      a test, and the answer where it applies; written `test gives answer`
 --     firstOf    the answer of the first check that applies
+--     passes     no check applies
 -- Assumes nothing.
-use mathlib.Core.Bool.{Bool, cond}
+use mathlib.Core.Bool.{Bool, true, cond, not, _&&_}
 use mathlib.Core.List.{List, [], _∷_}
 
 pub record Check (A : Type 0) : Type 0 where
@@ -17,3 +18,7 @@ _gives_ t a = record { applies = t; answer = a }
 unfoldable pub firstOf : {A : Type 0} → List (Check A) → A → A
 firstOf [] last = last
 firstOf (k ∷ ks) last = let r = firstOf ks last in cond (k .applies) (k .answer) r
+
+unfoldable pub passes : {A : Type 0} → List (Check A) → Bool
+passes [] = true
+passes (k ∷ ks) = not (k .applies) && passes ks

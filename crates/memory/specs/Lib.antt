@@ -1,3 +1,5 @@
--- The definition that the contracts of `memory` cite, and its laws.
+-- The definitions that the contracts of `memory` cite, and their laws.
 pub mod Patched
 pub mod PatchedLaws
+pub mod Writes
+pub mod WritesLaws
