@@ -1,8 +1,11 @@
 -- The numbers and items of the answers.                     rule: the table of numbered answers
 --     numberOf    0 for a load, else the number of the refusal
 --     itemOf      the module's index for 16, else 0
+--     isLoad      no check refuses
 -- Assumes nothing.
+use mathlib.Core.Bool.{Bool}
 use Prim.Native.Nat.{ℕ}
+use lib.Dec.{eqb}
 use Rattle.answer.specs.declared.Answer.{Answer}
 use Rattle.answer.specs.declared.Answer.the-variants.{Load, NotASubmission, BadSubmission, BadOperatorLine, WindowPastTop, BadMemoryMap, NoHeader, UnknownRequest, NoAddressFields, HeaderCutOff, LoadBeforeImage, NothingToLoad, LoadPastImage, BssBelowLoadEnd, EntryOutsideLoad, KernelNotOpen, NoRoomForModule, NoRoomForInformation}
 
@@ -45,3 +48,6 @@ itemOf EntryOutsideLoad = 0
 itemOf KernelNotOpen = 0
 itemOf (NoRoomForModule i) = i
 itemOf NoRoomForInformation = 0
+
+abbrev pub isLoad : Answer → Bool
+isLoad a = eqb (numberOf a) 0

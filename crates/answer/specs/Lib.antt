@@ -1,2 +1,3 @@
--- The definitions that the contracts of `answer` cite.
+-- The definitions that the contracts of `answer` cite, and laws of chains of answers.
 pub mod Answer
+pub mod Order

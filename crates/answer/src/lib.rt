@@ -1,6 +1,6 @@
 // The numbered answers of a load: 0, or the first check that refuses.
 ghost use mathlib.Core.Path.{_≡_};
-ghost use Rattle.answer.specs.Answer.{numberOf, itemOf};
+ghost use Rattle.answer.specs.Answer.{numberOf, itemOf, isLoad};
 
 // Each refusal stands at its number in the order of checks.
 pub enum Answer {
@@ -76,4 +76,11 @@ pub fn item(a: Answer) -> u32
         Answer::NoRoomForModule(i) => i,
         _ => 0,
     }
+}
+
+// Whether no check refuses.
+pub fn is_load(a: Answer) -> bool
+    ensures { λ r. ⌜ r ≡ isLoad a ⌝ }
+{
+    number(a) == 0
 }
