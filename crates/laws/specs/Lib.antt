@@ -5,3 +5,5 @@ pub mod First
 pub mod FirstLaws
 pub mod Checks
 pub mod CheckLaws
+pub mod Table
+pub mod TableLaws
