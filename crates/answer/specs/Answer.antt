@@ -2,8 +2,9 @@
 --     numberOf    0 for a load, else the number of the refusal
 --     itemOf      the module's index for 16, else 0
 --     isLoad      no check refuses
+--     orElse      the first of two answers that refuses
 -- Assumes nothing.
-use mathlib.Core.Bool.{Bool}
+use mathlib.Core.Bool.{Bool, cond}
 use Prim.Native.Nat.{ℕ}
 use lib.Dec.{eqb}
 use Rattle.answer.specs.declared.Answer.{Answer}
@@ -51,3 +52,6 @@ itemOf NoRoomForInformation = 0
 
 abbrev pub isLoad : Answer → Bool
 isLoad a = eqb (numberOf a) 0
+
+unfoldable pub orElse : Answer → Answer → Answer
+orElse a b = cond (isLoad a) b a

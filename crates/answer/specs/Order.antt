@@ -1,6 +1,7 @@
 -- Stages of checks, one after the other: a chain answers with its first refusal.
 --     refuses                  every check of a chain has a refusal for its answer
---     chain-stop, chain-on     where a stage refuses, the chain stops; where it does not, the next stage decides
+--     chain-append             where a stage does not refuse, the next one decides
+--     or-else-first, -second, -assoc, -same, -load    laws of the first of two answers that refuses
 --     passes-is                a stage passes exactly where its answer is a load
 --     First, numberedFrom      the first check that applies; checks that are numbered one after the other
 --     number-given, number-first    a number is given exactly where its check is the first that applies
@@ -12,11 +13,11 @@ use mathlib.Core.List.{List, [], _∷_, _++_}
 use mathlib.Core.Logic.{⊎-elim, _⊎_, inl, inr}
 use Prim.Native.Nat.{ℕ, zero, suc, _+_, _≤_, _<_}
 use native.Mathlib.Omega.{arith}
-use borrow.Author.Tests.{eqb-true}
+use borrow.Author.Tests.{eqb-true, not-true}
 use lib.Dec.{eqb}
 use Rattle.laws.specs.Checks.{Check, firstOf, passes}
 use Rattle.laws.specs.TestLaws.{and-left, and-right}
-use Rattle.answer.specs.Answer.{numberOf, isLoad}
+use Rattle.answer.specs.Answer.{numberOf, isLoad, orElse}
 use Rattle.answer.specs.declared.Answer.{Answer}
 use Rattle.answer.specs.declared.Answer.the-variants.{Load}
 
@@ -24,35 +25,57 @@ unfoldable pub refuses : List (Check Answer) → Bool
 refuses [] = true
 refuses (k ∷ ks) = not (isLoad (k .answer)) && refuses ks
 
-stop-by : (t : Bool) (a r s : Answer) → (isLoad r ≡ false → s ≡ r) → isLoad (cond t a r) ≡ false → cond t a s ≡ cond t a r
-stop-by true a r s h e = refl
-stop-by false a r s h e = h e
+-- one check in front
+by-test : (t : Bool) (a r s : Answer) → not (isLoad a) ≡ true → cond t a (orElse r s) ≡ orElse (cond t a r) s
+unfolding orElse
+by-test true a r s n = rw (not-true (isLoad a) n)
+by-test false a r s n = refl
 
-pub chain-stop : (ks ls : List (Check Answer)) → isLoad (firstOf ks Load) ≡ false → firstOf (ks ++ ls) Load ≡ firstOf ks Load
-unfolding firstOf
-chain-stop [] ls e = absurd (false≢true (sym e))
-chain-stop (k ∷ ks) ls e = stop-by (k .applies) (k .answer) (firstOf ks Load) (firstOf (ks ++ ls) Load) (chain-stop ks ls) e
+-- the next stage decides where a stage does not refuse
+pub chain-append : (ks ls : List (Check Answer)) → refuses ks ≡ true → firstOf (ks ++ ls) Load ≡ orElse (firstOf ks Load) (firstOf ls Load)
+unfolding firstOf refuses orElse
+chain-append [] ls n = refl
+chain-append (k ∷ ks) ls n =
+    rw (chain-append ks ls (and-right (not (isLoad (k .answer))) (refuses ks) n))
+    (by-test (k .applies) (k .answer) (firstOf ks Load) (firstOf ls Load) (and-left (not (isLoad (k .answer))) (refuses ks) n))
 
-not-load : (a : Answer) → not (isLoad a) ≡ true → isLoad a ≡ true → ⊥
-not-load a n e = false≢true (rw e at n)
+-- where the first answer refuses it is given, else the second
+pub or-else-first : (a b : Answer) → isLoad a ≡ false → orElse a b ≡ a
+unfolding orElse
+or-else-first a b e = rw e
 
-on-by : (t : Bool) (a r s z : Answer) → not (isLoad a) ≡ true → (isLoad r ≡ true → s ≡ z) → isLoad (cond t a r) ≡ true → cond t a s ≡ z
-on-by true a r s z n h e = absurd (not-load a n e)
-on-by false a r s z n h e = h e
+pub or-else-second : (a b : Answer) → isLoad a ≡ true → orElse a b ≡ b
+unfolding orElse
+or-else-second a b e = rw e
 
-pub chain-on : (ks ls : List (Check Answer)) → refuses ks ≡ true → isLoad (firstOf ks Load) ≡ true → firstOf (ks ++ ls) Load ≡ firstOf ls Load
-unfolding firstOf refuses
-chain-on [] ls n e = refl
-chain-on (k ∷ ks) ls n e =
-    on-by (k .applies) (k .answer) (firstOf ks Load) (firstOf (ks ++ ls) Load) (firstOf ls Load) (and-left (not (isLoad (k .answer))) (refuses ks) n)
-    (chain-on ks ls (and-right (not (isLoad (k .answer))) (refuses ks) n)) e
+pub or-else-assoc : (a b c : Answer) → orElse (orElse a b) c ≡ orElse a (orElse b c)
+unfolding orElse
+or-else-assoc a b c = by (isLoad a) refl
+  where
+    by : (t : Bool) → isLoad a ≡ t → cond (isLoad (cond (isLoad a) b a)) c (cond (isLoad a) b a) ≡ cond (isLoad a) (cond (isLoad b) c b) a
+    by true e = rw e
+    by false e = rw (e, e)
+
+-- the second answer counts only where the first does not refuse
+pub or-else-same : (a b c : Answer) → (isLoad a ≡ true → b ≡ c) → orElse a b ≡ orElse a c
+unfolding orElse
+or-else-same a b c h = by (isLoad a) refl
+  where
+    by : (t : Bool) → isLoad a ≡ t → cond (isLoad a) b a ≡ cond (isLoad a) c a
+    by true e = rw (h e)
+    by false e = rw e
+
+-- both pass where the first of them that refuses does not
+pub or-else-load : (a b : Answer) → isLoad (orElse a b) ≡ true → (isLoad a ≡ true) × (isLoad b ≡ true)
+unfolding orElse
+or-else-load a b h = by (isLoad a) refl
+  where
+    by : (t : Bool) → isLoad a ≡ t → (isLoad a ≡ true) × (isLoad b ≡ true)
+    by true e = (e, rw e at h)
+    by false e = absurd (false≢true (sym e ∙ rw e at h))
 
 passes-by : (t : Bool) (a r : Answer) (p : Bool) → not (isLoad a) ≡ true → isLoad r ≡ p → isLoad (cond t a r) ≡ not t && p
-passes-by true a r p n e = by-not (isLoad a) n
-  where
-    by-not : (b : Bool) → not b ≡ true → b ≡ false
-    by-not true m = sym m
-    by-not false m = refl
+passes-by true a r p n e = not-true (isLoad a) n
 passes-by false a r p n e = e
 
 pub passes-is : (ks : List (Check Answer)) → refuses ks ≡ true → isLoad (firstOf ks Load) ≡ passes ks

@@ -1,6 +1,6 @@
 // The numbered answers of a load: 0, or the first check that refuses.
 ghost use mathlib.Core.Path.{_≡_};
-ghost use Rattle.answer.specs.Answer.{numberOf, itemOf, isLoad};
+ghost use Rattle.answer.specs.Answer.{numberOf, itemOf, isLoad, orElse};
 
 // Each refusal stands at its number in the order of checks.
 pub enum Answer {
@@ -83,4 +83,14 @@ pub fn is_load(a: Answer) -> bool
     ensures { λ r. ⌜ r ≡ isLoad a ⌝ }
 {
     number(a) == 0
+}
+
+// The first of two answers that refuses.
+pub fn or_else(a: Answer, b: Answer) -> Answer
+    ensures { λ r. ⌜ r ≡ orElse a b ⌝ }
+{
+    if is_load(a) {
+        return b;
+    }
+    a
 }

@@ -1,12 +1,14 @@
 -- What proves that an answer is the first of a chain of checks: `search chain depth 20`.
---     chain            the rule set
---     firstOf-append   a chain goes on where its first part ends
+--     chain                          the rule set
+--     firstOf-append, passes-append  a chain goes on where its first part ends
+--     passes-on                      a chain of which no check applies gives what stands behind it
 -- Assumes nothing.
-use mathlib.Core.Path.{_≡_, refl}
-use mathlib.Core.Bool.{Bool, true, false, cond, not, _&&_, _||_}
+use mathlib.Core.Path.{_≡_, refl, sym}
+use mathlib.Core.Bool.{Bool, true, false, cond, not, _&&_, _||_, and-assoc}
 use mathlib.Core.List.{List, [], _∷_, _++_}
-use borrow.Author.Tests.{lt-ltb, le-ltb, le-leb, lt-leb, eq-eqb, ne-eqb}
-use Rattle.laws.specs.Checks.{Check, firstOf}
+use borrow.Author.Tests.{lt-ltb, le-ltb, le-leb, lt-leb, eq-eqb, ne-eqb, not-true}
+use Rattle.laws.specs.Checks.{Check, firstOf, passes}
+use Rattle.laws.specs.TestLaws as tests
 
 module _ {A : Type 0} where
   -- a chain goes on where its first part ends
@@ -14,6 +16,20 @@ module _ {A : Type 0} where
   unfolding firstOf
   firstOf-append [] ls z = refl
   firstOf-append (k ∷ ks) ls z = rw (firstOf-append ks ls z) refl
+
+  -- no check of two chains applies where none of either does
+  pub passes-append : (ks ls : List (Check A)) → passes (ks ++ ls) ≡ passes ks && passes ls
+  unfolding passes
+  passes-append [] ls = refl
+  passes-append (k ∷ ks) ls = rw (passes-append ks ls) (sym (and-assoc (not (k .applies)) (passes ks) (passes ls)))
+
+  -- no check applies, so the answer is what stands behind the chain
+  pub passes-on : (ks : List (Check A)) (z : A) → passes ks ≡ true → firstOf ks z ≡ z
+  unfolding passes firstOf
+  passes-on [] z h = refl
+  passes-on (k ∷ ks) z h =
+      let e : k .applies ≡ false = not-true _ (tests.and-left (not (k .applies)) (passes ks) h) in
+      rw e (passes-on ks z (tests.and-right (not (k .applies)) (passes ks) h))
 
   -- none applies
   pub none : (a z : A) → a ≡ z → a ≡ firstOf [] z

@@ -19,6 +19,7 @@ unfoldable pub firstOf : {A : Type 0} → List (Check A) → A → A
 firstOf [] last = last
 firstOf (k ∷ ks) last = let r = firstOf ks last in cond (k .applies) (k .answer) r
 
+-- whether no check applies
 unfoldable pub passes : {A : Type 0} → List (Check A) → Bool
 passes [] = true
 passes (k ∷ ks) = not (k .applies) && passes ks

@@ -2,7 +2,8 @@
 --     any-here, any-at, any-none, none-any    some number passes, or none does
 --     any-more, any-same                      one number more; tests that agree
 --     all-intro, all-elim, all-not            each number passes, or one does not
---     run-is, run-to                          where a run ends
+--     all-zero, all-more                      no number, and one number more
+--     run-is, run-to, run-says                where a run ends
 -- Assumes nothing.
 use Prim.Native.Nat.{ℕ, zero, suc, _+_, _-_, _≤_, _<_}
 use mathlib.Core.Path.{_≡_, refl, sym, ap, _∙_}
@@ -102,6 +103,15 @@ module _ (f : ℕ → Bool) (a : ℕ) where
       (λ r. all-elim n (and-left (allFrom f a n) (f (a + n)) e) y l r)
       (below-suc y (a + n) (omega arith))
 
+  pub all-zero : allFrom f a 0 ≡ true
+  unfolding allFrom
+  all-zero = refl
+
+  -- one number more, as a loop counts
+  pub all-more : (n : ℕ) → allFrom f a (n + 1) ≡ allFrom f a n && f (a + n)
+  unfolding allFrom
+  all-more n = rw add-one
+
   -- a number of the range that does not pass
   pub all-not : (n y : ℕ) → a ≤ y → y < a + n → f y ≡ false → allFrom f a n ≡ false
   all-not n y l m e = ⊎-elim (λ t. absurd (false≢true (sym e ∙ all-elim n t y l m))) (λ t. t) (true-or-false (allFrom f a n))
@@ -118,3 +128,25 @@ pub run-to : (f : ℕ → Bool) (a x k : ℕ) → a ≤ x → x ≤ k → ((y : 
 run-to f a x k l m p q =
     sym
     (run-is f (k - a) a (x - a) (omega arith) (λ y u v. p y u (omega arith)) (λ u. let e : a + (x - a) ≡ x = omega arith in rw e (q (omega arith))))
+
+-- what the length of a run says: its numbers pass, and the next, if there is one, does not
+pub record Run (f : ℕ → Bool) (a k n : ℕ) : Type 0 where
+  pub low : n ≤ k
+  pub passed : (y : ℕ) → a ≤ y → y < a + n → f y ≡ true
+  pub next : n < k → f (a + n) ≡ false
+
+pub run-says : (f : ℕ → Bool) (a k : ℕ) → Run f a k (run f a k)
+unfolding run
+run-says f a zero = record { low = omega arith; passed = λ y l m. absurd (omega arith); next = λ l. absurd (omega arith) }
+run-says f a (suc k) =
+    ⊎-elim
+    (λ (t : f a ≡ true).
+    let r = run-says f (suc a) k in
+    rw t
+    (record {
+      low = omega (arith, r .low);
+      passed = λ y l m. ⊎-elim (λ q. rw (← q) t) (λ u. r .passed y u (omega arith)) (eq-or-lt-of-le l);
+      next = λ l. let e : a + suc (run f (suc a) k) ≡ suc a + run f (suc a) k = omega arith in rw e (r .next (omega arith));
+    }))
+    (λ (t : f a ≡ false). rw t (record { low = omega arith; passed = λ y l m. absurd (omega arith); next = λ l. rw add-zero t }))
+    (true-or-false (f a))
