@@ -1,0 +1,39 @@
+-- One turn of the loops over the modules.
+--     hold-more                    one module more that passes a test
+--     modules-more, next-data      one module more in the table, and where the next one's data begins
+-- Assumes nothing.
+use mathlib.Core.Path.{_≡_, ap, sym, _∙_}
+use mathlib.Core.Bool.{Bool, true}
+use mathlib.Core.List.{List, [], _∷_, append-assoc}
+use Prim.Native.Nat.{ℕ, suc, _+_, _-_, _<_}
+use native.Mathlib.Nat.{zero-add}
+use native.Mathlib.Numerals.{add-one}
+use native.Mathlib.Omega.{arith}
+use lib.ListN.{set, replicate}
+use lib.Seq.{set-at}
+use Rattle.laws.specs.Tests.{allFrom}
+use Rattle.laws.specs.TestLaws.{all-more}
+use Rattle.submission.specs.Format.{entryOf, dataStart, moduleFrom, moduleOf, modulesOf, moduleLimit, noModule, moduleTable}
+use Rattle.submission.specs.FormatLaws.{data-behind-string, length-modulesOf}
+use Rattle.submission.specs.declared.read.Entry.{Entry}
+use Rattle.submission.specs.declared.Module.{Module}
+
+pub hold-more : (f : ℕ → Bool) (i : ℕ) → allFrom f 0 i ≡ true → f i ≡ true → allFrom f 0 (i + 1) ≡ true
+hold-more f i h e = rw (all-more f 0 i, h, zero-add) e
+
+-- the loop reads the entry e, and r is its module with the data from `at` on
+module _ (s : List ℕ) (i at : ℕ) (e : Entry) (r : Module) (d : at ≡ dataStart s i) (q : e ≡ entryOf s i) (p : r ≡ moduleFrom at e) where
+  read-module : r ≡ moduleOf s i
+  read-module = p ∙ ap (λ (a : ℕ). moduleFrom a e) d ∙ ap (moduleFrom (dataStart s i)) q
+
+  pub modules-more : (ms : List Module) → ms ≡ moduleTable s i → i < moduleLimit → set ms i r ≡ moduleTable s (i + 1)
+  unfolding modulesOf
+  modules-more ms h l =
+      let n = moduleLimit - suc i in
+      let k : moduleLimit - i ≡ suc n = omega arith in
+      rw (h, read-module, k, add-one)
+      (set-at (modulesOf s i) noModule (replicate n noModule) (moduleOf s i) i (length-modulesOf s i)
+      ∙ sym (append-assoc (modulesOf s i) (moduleOf s i ∷ []) (replicate n noModule)))
+
+  pub next-data : r .string .at + r .string .len ≡ dataStart s (i + 1)
+  next-data = ap (λ (m : Module). m .string .at + m .string .len) read-module ∙ sym (data-behind-string s i)

@@ -1,0 +1,99 @@
+-- `submission::parse` meets its contract: each return gives what its test decides.
+-- Assumes nothing.
+use mathlib.Core.Path.{_≡_, ap, sym, _∙_}
+use mathlib.Core.Bool.{true}
+use native.Mathlib.Omega.{arith}
+use borrow.Author.Tests.{not-true, not-false}
+use borrow.Author.Needs.{needs}
+use Rattle.answer.specs.declared.Answer.the-variants.{Load}
+use Rattle.submission.specs.Rules.{isSubmission}
+use Rattle.submission.specs.RuleLaws.{header-inside}
+use Rattle.submission.specs.declared.Layout.{Layout}
+use Rattle.submission.specs.declared.Parsed.{Parsed}
+use Rattle.submission.proofs.Judged.{too-many, table-outside, not-submission, bad-submission, good-submission}
+use Rattle.submission.proofs.parse.Statement.{statement}
+use Rattle.submission.proofs.parse.Tie as tie
+
+abbrev loaded : Layout → Parsed
+loaded l = record { answer = Load; layout = l }
+
+-- behind the first test
+marked : (c : tie.Else1) → isSubmission (c .before .before .before .args .s .now) ≡ true
+marked c = sym (c .before .is-submission .ensures) ∙ not-false _ (c .if1 .left)
+
+is-submission-requires : tie.Need-is-submission-requires
+is-submission-requires c κs = search needs
+
+refused-requires : tie.Need-refused-requires
+refused-requires c κs = search needs
+
+returns : tie.Need-returns
+returns c =
+    let judged = c .before .before in
+    c .refused .ensures ∙ not-submission (judged .before .before .args .s .now) (sym (judged .is-submission .ensures) ∙ not-true _ (c .before .if1 .taken))
+
+module-count-requires : tie.Need-module-count-requires
+module-count-requires c κs = header-inside (c .before .before .before .args .s .now) (marked c)
+
+refused-requires-2 : tie.Need-refused-requires-2
+refused-requires-2 c κs = search needs
+
+returns-2 : tie.Need-returns-2
+returns-2 c =
+    let first = c .before .before .before in
+    let s = first .before .before .before .args .s .now in
+    c .refused2 .ensures ∙ bad-submission s (marked first) (too-many s (omega arith))
+
+entry-at-requires : tie.Need-entry-at-requires
+entry-at-requires c κs = search needs
+
+refused-requires-3 : tie.Need-refused-requires-3
+refused-requires-3 c κs = search needs
+
+returns-3 : tie.Need-returns-3
+returns-3 c =
+    let first = c .before .before .before .before .before in
+    let s = first .before .before .before .args .s .now in
+    c .refused3 .ensures ∙ bad-submission s (marked first) (table-outside s (omega arith))
+
+read-layout-requires : tie.Need-read-layout-requires
+read-layout-requires c κs = search needs
+
+rules-hold-requires : tie.Need-rules-hold-requires
+rules-hold-requires c κs = search needs
+
+refused-requires-4 : tie.Need-refused-requires-4
+refused-requires-4 c κs = search needs
+
+returns-4 : tie.Need-returns-4
+returns-4 c =
+    let judged = c .before .before in
+    let first = judged .before .before .before .before .before .before .before in
+    let s = first .before .before .before .args .s .now in
+    c .refused4 .ensures ∙ bad-submission s (marked first) (sym (judged .rules-hold .ensures) ∙ not-true _ (c .before .if4 .taken))
+
+returns-5 : tie.Need-returns-5
+returns-5 c =
+    let judged = c .before in
+    let first = judged .before .before .before .before .before .before .before in
+    let s = first .before .before .before .args .s .now in
+    ap loaded (judged .before .before .read-layout .ensures .0) ∙ good-submission s (marked first) (sym (judged .rules-hold .ensures) ∙ not-false _ (c .if4 .left))
+
+pub parse-spec : {M : Type 1} → statement M
+parse-spec =
+    tie.close
+    (tie.spec
+    is-submission-requires
+    refused-requires
+    returns
+    module-count-requires
+    refused-requires-2
+    returns-2
+    entry-at-requires
+    refused-requires-3
+    returns-3
+    read-layout-requires
+    rules-hold-requires
+    refused-requires-4
+    returns-4
+    returns-5)

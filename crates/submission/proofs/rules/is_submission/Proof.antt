@@ -1,0 +1,67 @@
+-- `submission::rules::is_submission` meets its contract: its tests are those of the definition, in its order.
+-- Assumes nothing.
+use mathlib.Core.Path.{_≡_, refl, sym}
+use mathlib.Core.Bool.{true, false}
+use mathlib.Core.List.{List}
+use Prim.Native.Nat.{ℕ, _≤_, _<_}
+use native.Mathlib.Omega.{arith}
+use lib.Dec.{eqb}
+use lib.ListN.{length, take}
+use lib.Seq.{length-take-le}
+use borrow.Author.Tests.{le-leb, lt-leb, not-true, not-false}
+use borrow.Author.Needs.{needs}
+use Rattle.submission.specs.Scan.{sameBytes}
+use Rattle.submission.specs.Format.{mark, version, headerSize}
+use Rattle.submission.specs.Rules.{isSubmission}
+use Rattle.submission.proofs.rules.is_submission.Statement.{statement}
+use Rattle.submission.proofs.rules.is_submission.Tie as tie
+
+module _ (s : List ℕ) where
+  too-short : length s < headerSize → false ≡ isSubmission s
+  unfolding isSubmission
+  too-short h = rw (lt-leb headerSize (length s) h) refl
+
+  other-mark : headerSize ≤ length s → sameBytes (take 3 s) mark ≡ false → false ≡ isSubmission s
+  unfolding isSubmission
+  other-mark h m = rw (le-leb headerSize (length s) h, m) refl
+
+  else-version : (v : ℕ) → v ≡ version s → headerSize ≤ length s → sameBytes (take 3 s) mark ≡ true → eqb v 1 ≡ isSubmission s
+  unfolding isSubmission
+  else-version v e h m = rw (e, le-leb headerSize (length s) h, m) refl
+
+returns : tie.Need-returns
+returns c = too-short (c .before .before .args .s .now) (c .if1 .taken)
+
+slice-aggregate-same-bytes : tie.Need-slice-aggregate-same-bytes
+slice-aggregate-same-bytes c = sym (length-take-le 3 (c .before .before .before .args .s .now) (omega arith))
+
+slice-aggregate-same-bytes-2 : tie.Need-slice-aggregate-same-bytes-2
+slice-aggregate-same-bytes-2 c = search needs
+
+same-bytes-requires : tie.Need-same-bytes-requires
+same-bytes-requires c κs = search needs
+
+returns-2 : tie.Need-returns-2
+returns-2 c =
+    let a = c .before .before .before .before .before .before .args in
+    other-mark (a .s .now) (omega arith) (cc (not-true (c .before .same-bytes .result) (c .if2 .taken)))
+
+read-u16-requires : tie.Need-read-u16-requires
+read-u16-requires c κs = search needs
+
+returns-3 : tie.Need-returns-3
+returns-3 c =
+    let a = c .before .before .before .before .before .before .before .args in
+    else-version (a .s .now) (c .read-u16 .result) (omega arith) (omega arith) (cc (not-false (c .before .before .same-bytes .result) (c .before .if2 .left)))
+
+pub is-submission-spec : {M : Type 1} → statement M
+is-submission-spec =
+    tie.close
+    (tie.spec
+    returns
+    slice-aggregate-same-bytes
+    slice-aggregate-same-bytes-2
+    same-bytes-requires
+    returns-2
+    read-u16-requires
+    returns-3)

@@ -1,0 +1,28 @@
+-- The operator's line, and the command line in force.           rule: the submission, the table of numbered answers
+--     operatorChecks      3
+--     commandLine         the command line in force
+-- Assumes nothing.
+use mathlib.Core.Bool.{cond, _||_}
+use mathlib.Core.List.{List, [], _∷_, _++_}
+use Prim.Native.Nat.{ℕ}
+use lib.Dec.{ltb}
+use lib.ListN.{length}
+use Rattle.answer.specs.declared.Answer.{Answer}
+use Rattle.answer.specs.declared.Answer.the-variants.{BadOperatorLine}
+use Rattle.laws.specs.Checks.{Check, _gives_, passes}
+use Rattle.submission.specs.Scan.{hasZero}
+use Rattle.submission.specs.Format.{lineOf, bytesOf}
+use Rattle.submission.specs.Rules.{lineLimit, submissionChecks}
+
+-- 3: over 255 bytes, or a zero byte
+unfoldable pub operatorChecks : List ℕ → List (Check Answer)
+operatorChecks line = (ltb lineLimit (length line) || hasZero line) gives BadOperatorLine ∷ []
+
+-- the operator's line if it is not empty, else the submission's
+unfoldable pub lineInForce : List ℕ → List ℕ → List ℕ
+lineInForce [] s = bytesOf s (lineOf s)
+lineInForce (x ∷ line) s = x ∷ line
+
+-- the same, and empty where 1, 2 or 3 applies
+unfoldable pub commandLine : List ℕ → List ℕ → List ℕ
+commandLine operator s = cond (passes (submissionChecks s ++ operatorChecks operator)) (lineInForce operator s) []

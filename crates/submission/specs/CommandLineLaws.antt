@@ -1,0 +1,108 @@
+-- What an accepted operator's line and the command line in force keep.
+--     operator-refuses, operator-loads                     the answer is 0 only where no check applies
+--     operator-length, operator-text                       an accepted operator's line
+--     line-refused-submission, line-refused-operator, line-of-operator, line-of-submission, line-cases      which line is in force
+--     line-length, line-text, line-zero-free               the line in force, whatever was lent
+-- Assumes nothing.
+use mathlib.Core.Path.{_≡_, refl, ap, _∙_}
+use mathlib.Core.Bool.{Bool, true, false, not, _||_, and-false, true≢false}
+use mathlib.Core.Logic.{⊎-elim}
+use mathlib.Core.List.{List, [], _∷_}
+use Prim.Native.Nat.{ℕ, _≤_, _<_}
+use native.Mathlib.Omega.{arith}
+use lib.Dec.{ltb}
+use lib.ListN.{length, getD}
+use borrow.Author.Tests.{ltb-false, not-true}
+use Rattle.answer.specs.Answer.{numberOf}
+use Rattle.answer.specs.declared.Answer.the-variants.{Load, BadOperatorLine}
+use Rattle.laws.specs.TestLaws.{true-or-false, or-none-left, or-none-right, and-left, lt-or-le}
+use Rattle.laws.specs.Checks.{_gives_, firstOf, passes}
+use Rattle.laws.specs.CheckLaws.{passes-append}
+use Rattle.submission.specs.Scan.{hasZero}
+use Rattle.submission.specs.ScanLaws.{no-zero}
+use Rattle.submission.specs.Format.{lineOf, bytesOf}
+use Rattle.submission.specs.FormatLaws.{length-bytesOf}
+use Rattle.submission.specs.Rules.{lineLimit, submissionChecks}
+use Rattle.submission.specs.RuleLaws.{Accepted, accepted, line-inside}
+use Rattle.submission.specs.CommandLine.{operatorChecks, lineInForce, commandLine}
+
+one-refuses : (a : Bool) → passes (a gives BadOperatorLine ∷ []) ≡ false → numberOf (firstOf (a gives BadOperatorLine ∷ []) Load) ≡ 0 → ⊥
+unfolding passes firstOf
+one-refuses true h e = omega arith
+one-refuses false h e = true≢false h
+
+module _ (line : List ℕ) where
+  -- a check that applies gives a number other than 0
+  pub operator-refuses : passes (operatorChecks line) ≡ false → numberOf (firstOf (operatorChecks line) Load) ≡ 0 → ⊥
+  unfolding operatorChecks
+  operator-refuses = one-refuses (ltb lineLimit (length line) || hasZero line)
+
+  pub operator-loads : firstOf (operatorChecks line) Load ≡ Load → passes (operatorChecks line) ≡ true
+  operator-loads h = ⊎-elim (λ t. t) (λ f. absurd (operator-refuses f (ap numberOf h))) (true-or-false (passes (operatorChecks line)))
+
+  neither : passes (operatorChecks line) ≡ true → ltb lineLimit (length line) || hasZero line ≡ false
+  unfolding passes operatorChecks
+  neither h = not-true _ (and-left (not (ltb lineLimit (length line) || hasZero line)) true h)
+
+  pub operator-length : passes (operatorChecks line) ≡ true → length line ≤ lineLimit
+  operator-length h = ltb-false lineLimit (length line) (or-none-left (ltb lineLimit (length line)) (hasZero line) (neither h))
+
+  pub operator-text : passes (operatorChecks line) ≡ true → hasZero line ≡ false
+  operator-text h = or-none-right (ltb lineLimit (length line)) (hasZero line) (neither h)
+
+of-operator : (operator s : List ℕ) → 0 < length operator → lineInForce operator s ≡ operator
+unfolding lineInForce
+of-operator [] s l = absurd (omega arith)
+of-operator (x ∷ operator) s l = refl
+
+of-submission : (operator s : List ℕ) → length operator ≤ 0 → lineInForce operator s ≡ bytesOf s (lineOf s)
+unfolding lineInForce
+of-submission [] s l = refl
+of-submission (x ∷ operator) s l = absurd (omega arith)
+
+module _ (operator s : List ℕ) where
+  pub line-refused-submission : passes (submissionChecks s) ≡ false → commandLine operator s ≡ []
+  unfolding commandLine
+  line-refused-submission h = rw (passes-append (submissionChecks s) (operatorChecks operator), h) refl
+
+  pub line-refused-operator : passes (operatorChecks operator) ≡ false → commandLine operator s ≡ []
+  unfolding commandLine
+  line-refused-operator h = rw (passes-append (submissionChecks s) (operatorChecks operator), h, and-false (passes (submissionChecks s))) refl
+
+  in-force : passes (submissionChecks s) ≡ true → passes (operatorChecks operator) ≡ true → commandLine operator s ≡ lineInForce operator s
+  unfolding commandLine
+  in-force h k = rw (passes-append (submissionChecks s) (operatorChecks operator), h, k) refl
+
+  pub line-of-operator : passes (submissionChecks s) ≡ true → passes (operatorChecks operator) ≡ true → 0 < length operator → commandLine operator s ≡ operator
+  line-of-operator h k l = in-force h k ∙ of-operator operator s l
+
+  pub line-of-submission : passes (submissionChecks s) ≡ true → passes (operatorChecks operator) ≡ true → length operator ≤ 0 → commandLine operator s ≡ bytesOf s (lineOf s)
+  line-of-submission h k l = in-force h k ∙ of-submission operator s l
+
+  -- what holds of no line, of an accepted operator's line and of an accepted submission's line holds of the line in force
+  pub line-cases : (P : List ℕ → Type 0) → P [] → (passes (operatorChecks operator) ≡ true → P operator) → (Accepted s → P (bytesOf s (lineOf s))) → P (commandLine operator s)
+  line-cases P n o t =
+      ⊎-elim
+      (λ (h : passes (submissionChecks s) ≡ true).
+      ⊎-elim
+      (λ (k : passes (operatorChecks operator) ≡ true).
+      ⊎-elim
+      (λ l. rw (line-of-operator h k l) (o k))
+      (λ l. rw (line-of-submission h k l) (t (accepted s h)))
+      (lt-or-le 0 (length operator)))
+      (λ (k : passes (operatorChecks operator) ≡ false). rw (line-refused-operator k) n)
+      (true-or-false (passes (operatorChecks operator))))
+      (λ (h : passes (submissionChecks s) ≡ false). rw (line-refused-submission h) n)
+      (true-or-false (passes (submissionChecks s)))
+
+  pub line-length : length (commandLine operator s) ≤ lineLimit
+  line-length =
+      line-cases (λ (l : List ℕ). length l ≤ lineLimit) (omega arith) (operator-length operator)
+      (λ (a : Accepted s). rw (length-bytesOf s (lineOf s) (line-inside s a)) (a .line))
+
+  pub line-text : hasZero (commandLine operator s) ≡ false
+  unfolding hasZero
+  line-text = line-cases (λ (l : List ℕ). hasZero l ≡ false) refl (operator-text operator) (λ (a : Accepted s). a .line-text)
+
+  pub line-zero-free : (i : ℕ) → i < length (commandLine operator s) → getD (commandLine operator s) i 0 ≡ 0 → ⊥
+  line-zero-free = no-zero (commandLine operator s) line-text

@@ -1,0 +1,121 @@
+-- The KSB format, version 1: its fields, and where its parts lie.                          rule: the submission
+--     mark, version, moduleCount, imageLength, lineLength      the header
+--     dataLength, stringLength, reserved                       the entry of a module
+--     imageStart, lineStart, dataStart, stringStart            the parts, one behind the other, by exact whole numbers
+--     partsEnd                                                 where the last part ends
+--     layoutOf, noLayout                                       all parts by offset and length, and none
+--     bytesOf                                                  the bytes of a part
+-- A field that runs past the end of the submission reads zeros there.
+-- Assumes nothing.
+use mathlib.Core.List.{List, [], _∷_, _++_}
+use Prim.Native.Nat.{ℕ, zero, suc, _+_, _*_, _-_}
+use lib.ListN.{take, drop, replicate}
+use Rattle.number.specs.Number.{numberAt}
+use Rattle.submission.specs.declared.read.Entry.{Entry}
+use Rattle.submission.specs.declared.Part.{Part}
+use Rattle.submission.specs.declared.Module.{Module}
+use Rattle.submission.specs.declared.Layout.{Layout}
+
+-- at 0, 3 bytes: `KSB`
+abbrev pub mark : List ℕ
+mark = 0x4B ∷ 0x53 ∷ 0x42 ∷ []
+
+-- at 3, 2 bytes
+abbrev pub version : List ℕ → ℕ
+version s = numberAt 2 s 3
+
+-- at 5, 1 byte
+abbrev pub moduleCount : List ℕ → ℕ
+moduleCount s = numberAt 1 s 5
+
+-- at 6, 4 bytes
+abbrev pub imageLength : List ℕ → ℕ
+imageLength s = numberAt 4 s 6
+
+-- at 10, 2 bytes
+abbrev pub lineLength : List ℕ → ℕ
+lineLength s = numberAt 2 s 10
+
+-- at 12, 8 bytes for each module
+abbrev pub headerSize : ℕ
+headerSize = 12
+
+abbrev pub entrySize : ℕ
+entrySize = 8
+
+abbrev pub entryAt : ℕ → ℕ
+entryAt i = headerSize + entrySize * i
+
+-- at 0 of an entry, 4 bytes
+abbrev pub dataLength : List ℕ → ℕ → ℕ
+dataLength s i = numberAt 4 s (entryAt i)
+
+-- at 4 of an entry, 2 bytes
+abbrev pub stringLength : List ℕ → ℕ → ℕ
+stringLength s i = numberAt 2 s (entryAt i + 4)
+
+-- at 6 of an entry, 2 bytes
+abbrev pub reserved : List ℕ → ℕ → ℕ
+reserved s i = numberAt 2 s (entryAt i + 6)
+
+abbrev pub entryOf : List ℕ → ℕ → Entry
+entryOf s i = record { bytes = dataLength s i; string = stringLength s i; reserved = reserved s i }
+
+-- then the image, the command line, and for each module its data and its string
+abbrev pub imageStart : List ℕ → ℕ
+imageStart s = entryAt (moduleCount s)
+
+abbrev pub lineStart : List ℕ → ℕ
+lineStart s = imageStart s + imageLength s
+
+unfoldable pub dataStart : List ℕ → ℕ → ℕ
+dataStart s zero = lineStart s + lineLength s
+dataStart s (suc i) = dataStart s i + dataLength s i + stringLength s i
+
+abbrev pub stringStart : List ℕ → ℕ → ℕ
+stringStart s i = dataStart s i + dataLength s i
+
+abbrev pub partsEnd : List ℕ → ℕ
+partsEnd s = dataStart s (moduleCount s)
+
+abbrev pub imageOf : List ℕ → Part
+imageOf s = record { at = imageStart s; len = imageLength s }
+
+abbrev pub lineOf : List ℕ → Part
+lineOf s = record { at = lineStart s; len = lineLength s }
+
+-- a module with its data from `at` on
+abbrev pub moduleFrom : ℕ → Entry → Module
+moduleFrom at e = record { «data» = record { at = at; len = e .bytes }; string = record { at = at + e .bytes; len = e .string } }
+
+abbrev pub moduleOf : List ℕ → ℕ → Module
+moduleOf s i = moduleFrom (dataStart s i) (entryOf s i)
+
+-- the first n modules
+unfoldable pub modulesOf : List ℕ → ℕ → List Module
+modulesOf s zero = []
+modulesOf s (suc n) = modulesOf s n ++ (moduleOf s n ∷ [])
+
+-- at most so many modules
+abbrev pub moduleLimit : ℕ
+moduleLimit = 16
+
+abbrev pub noPart : Part
+noPart = record { at = 0; len = 0 }
+
+abbrev pub noModule : Module
+noModule = record { «data» = noPart; string = noPart }
+
+-- the modules, and zeros past the last
+abbrev pub moduleTable : List ℕ → ℕ → List Module
+moduleTable s n = modulesOf s n ++ replicate (moduleLimit - n) noModule
+
+unfoldable pub layoutOf : List ℕ → Layout
+layoutOf s = record { image = imageOf s; line = lineOf s; modules = moduleTable s (moduleCount s); count = moduleCount s }
+
+unfoldable pub noLayout : Layout
+noLayout = record { image = noPart; line = noPart; modules = replicate moduleLimit noModule; count = 0 }
+
+-- the bytes of a part, cut where the submission ends
+abbrev pub bytesOf : List ℕ → Part → List ℕ
+bytesOf s p = take (p .len) (drop (p .at) s)

@@ -1,0 +1,9 @@
+-- The definitions that the contracts of `submission` cite, and their laws.
+pub mod Scan
+pub mod ScanLaws
+pub mod Format
+pub mod FormatLaws
+pub mod Rules
+pub mod RuleLaws
+pub mod CommandLine
+pub mod CommandLineLaws

@@ -1,0 +1,176 @@
+-- What an accepted submission keeps.
+--     submission-refuses, submission-loads                       the answer is 0 only where no check applies
+--     Accepted, accepted                                         every rule of an accepted submission, as facts
+--     image-inside, line-inside, data-inside, string-inside      its parts lie inside it
+--     line-no-zero, string-no-zero                               no zero byte in its command line and strings
+--     image-bound, data-bound                                    lengths of 32 bits
+--     parsed-answer, parsed-layout, parsed-none, parsed-count    what a parse gives
+-- Assumes nothing.
+use mathlib.Core.Path.{_≡_, refl, ap, _∙_}
+use mathlib.Core.Bool.{Bool, true, false, not, _&&_, false≢true, true≢false}
+use mathlib.Core.Logic.{⊎-elim}
+use mathlib.Core.List.{List, [], _∷_}
+use Prim.Native.Nat.{ℕ, _+_, _^_, _≤_, _<_}
+use native.Mathlib.Omega.{arith}
+use lib.Dec.{leb, eqb}
+use lib.ListN.{length, take, drop, getD}
+use lib.Seq.{getD-take, getD-drop}
+use borrow.Author.Tests.{leb-true, eqb-true, not-true, not-false}
+use Rattle.answer.specs.declared.Answer.the-variants.{Load, NotASubmission, BadSubmission}
+use Rattle.answer.specs.Answer.{numberOf}
+use Rattle.laws.specs.Tests.{allFrom}
+use Rattle.laws.specs.TestLaws.{true-or-false, and-left, and-right, all-elim}
+use Rattle.laws.specs.Checks.{_gives_, firstOf, passes}
+use Rattle.number.specs.NumberLaws.{Bytes, bytes-drop, number-bound}
+use Rattle.submission.specs.Scan.{hasZero, sameBytes}
+use Rattle.submission.specs.ScanLaws.{no-zero}
+use Rattle.submission.specs.Format.{mark, version, moduleCount, imageLength, lineLength, headerSize, entryAt, dataLength, stringLength, reserved, imageStart, lineStart, dataStart, stringStart, partsEnd, lineOf, moduleOf, moduleLimit, layoutOf, noLayout, bytesOf}
+use Rattle.submission.specs.FormatLaws.{data-behind-line, data-behind-string, data-order, length-bytesOf, layout-count}
+use Rattle.submission.specs.Rules.{lineLimit, stringLimit, isSubmission, inLimits, entryHolds, stringHolds, rulesHold, submissionChecks, parsed}
+use Rattle.submission.specs.declared.Part.{Part}
+
+-- the rules of a submission, as facts
+pub record Accepted (s : List ℕ) : Type 0 where
+  pub header : headerSize ≤ length s
+  pub count : moduleCount s ≤ moduleLimit
+  pub line : lineLength s ≤ lineLimit
+  pub bytes : (i : ℕ) → i < moduleCount s → 1 ≤ dataLength s i
+  pub string : (i : ℕ) → i < moduleCount s → stringLength s i ≤ stringLimit
+  pub zeros : (i : ℕ) → i < moduleCount s → reserved s i ≡ 0
+  pub end : partsEnd s ≡ length s
+  pub line-text : hasZero (bytesOf s (lineOf s)) ≡ false
+  pub string-text : (i : ℕ) → i < moduleCount s → hasZero (bytesOf s (moduleOf s i .string)) ≡ false
+
+-- no zero byte in a part
+part-no-zero : (s : List ℕ) (p : Part) → p .at + p .len ≤ length s → hasZero (bytesOf s p) ≡ false → (i : ℕ) → i < p .len → getD s (p .at + i) 0 ≡ 0 → ⊥
+part-no-zero s p h z i l e =
+    let k : i < length (bytesOf s p) = rw (length-bytesOf s p h) l in
+    no-zero (bytesOf s p) z i k (getD-take (p .len) (drop (p .at) s) i 0 l ∙ getD-drop (p .at) s i 0 ∙ e)
+
+two-refuse : (a b : Bool)
+    → passes (not a gives NotASubmission ∷ not b gives BadSubmission ∷ []) ≡ false → numberOf (firstOf (not a gives NotASubmission ∷ not b gives BadSubmission ∷ []) Load) ≡ 0 → ⊥
+unfolding passes firstOf
+two-refuse true true h e = true≢false h
+two-refuse true false h e = omega arith
+two-refuse false b h e = omega arith
+
+six : (a b c d e f : Bool) → a && b && c && d && e && f ≡ true → (a ≡ true) × (b ≡ true) × (c ≡ true) × (d ≡ true) × (e ≡ true) × (f ≡ true)
+six true true true true true true h = (refl, refl, refl, refl, refl, refl)
+six true true true true true false h = absurd (false≢true h)
+six true true true true false f h = absurd (false≢true h)
+six true true true false e f h = absurd (false≢true h)
+six true true false d e f h = absurd (false≢true h)
+six true false c d e f h = absurd (false≢true h)
+six false b c d e f h = absurd (false≢true h)
+
+module _ (s : List ℕ) where
+  pub header-inside : isSubmission s ≡ true → headerSize ≤ length s
+  unfolding isSubmission
+  header-inside h =
+      let a = leb headerSize (length s) in
+      let b = sameBytes (take 3 s) mark in
+      leb-true headerSize (length s) (and-left a b (and-left (a && b) (eqb (version s) 1) h))
+
+  is-submission : passes (submissionChecks s) ≡ true → isSubmission s ≡ true
+  unfolding passes submissionChecks
+  is-submission h = not-false _ (not-true _ (and-left (not (not (isSubmission s))) (not (not (rulesHold s)) && true) h))
+
+  holds-rules : passes (submissionChecks s) ≡ true → rulesHold s ≡ true
+  unfolding passes submissionChecks
+  holds-rules h = not-false _ (not-true _ (and-left (not (not (rulesHold s))) true (and-right (not (not (isSubmission s))) (not (not (rulesHold s)) && true) h)))
+
+  -- a check that applies gives a number other than 0
+  pub submission-refuses : passes (submissionChecks s) ≡ false → numberOf (firstOf (submissionChecks s) Load) ≡ 0 → ⊥
+  unfolding submissionChecks
+  submission-refuses = two-refuse (isSubmission s) (rulesHold s)
+
+  pub submission-loads : firstOf (submissionChecks s) Load ≡ Load → passes (submissionChecks s) ≡ true
+  submission-loads h = ⊎-elim (λ t. t) (λ f. absurd (submission-refuses f (ap numberOf h))) (true-or-false (passes (submissionChecks s)))
+
+  pub parsed-answer : parsed s .answer ≡ firstOf (submissionChecks s) Load
+  unfolding parsed
+  parsed-answer = refl
+
+  pub parsed-layout : passes (submissionChecks s) ≡ true → parsed s .layout ≡ layoutOf s
+  unfolding parsed
+  parsed-layout h = rw h refl
+
+  pub parsed-none : passes (submissionChecks s) ≡ false → parsed s .layout ≡ noLayout
+  unfolding parsed
+  parsed-none h = rw h refl
+
+  -- the rules, one by one
+  rules-apart : rulesHold s ≡ true
+      → (leb (moduleCount s) moduleLimit ≡ true)
+      × (leb (lineLength s) lineLimit ≡ true)
+      × (allFrom (entryHolds s) 0 (moduleCount s) ≡ true)
+      × (eqb (partsEnd s) (length s) ≡ true)
+      × (not (hasZero (bytesOf s (lineOf s))) ≡ true)
+      × (allFrom (stringHolds s) 0 (moduleCount s) ≡ true)
+  unfolding rulesHold
+  rules-apart h = six _ _ _ _ _ _ h
+
+  entry-facts : allFrom (entryHolds s) 0 (moduleCount s) ≡ true → (i : ℕ) → i < moduleCount s → (1 ≤ dataLength s i) × (stringLength s i ≤ stringLimit) × (reserved s i ≡ 0)
+  unfolding inLimits
+  entry-facts h i l =
+      let a = leb 1 (dataLength s i) in
+      let b = leb (stringLength s i) stringLimit in
+      let c = eqb (reserved s i) 0 in
+      let abc = all-elim (entryHolds s) 0 (moduleCount s) h i (omega arith) (omega arith) in
+      let ab = and-left (a && b) c abc in
+      (leb-true _ _ (and-left a b ab), leb-true _ _ (and-right a b ab), eqb-true _ _ (and-right (a && b) c abc))
+
+  string-facts : allFrom (stringHolds s) 0 (moduleCount s) ≡ true → (i : ℕ) → i < moduleCount s → hasZero (bytesOf s (moduleOf s i .string)) ≡ false
+  unfolding stringHolds
+  string-facts h i l = not-true _ (all-elim (stringHolds s) 0 (moduleCount s) h i (omega arith) (omega arith))
+
+  pub accepted : passes (submissionChecks s) ≡ true → Accepted s
+  accepted h =
+      let r = rules-apart (holds-rules h) in
+      record {
+        header = header-inside (is-submission h);
+        count = leb-true _ _ (r .0);
+        line = leb-true _ _ (r .1);
+        bytes = λ i l. entry-facts (r .2) i l .0;
+        string = λ i l. entry-facts (r .2) i l .1;
+        zeros = λ i l. entry-facts (r .2) i l .2;
+        end = eqb-true _ _ (r .3);
+        line-text = not-true _ (r .4);
+        string-text = string-facts (r .5);
+      }
+
+-- the layout that a parse gives has room for its modules, refused or not
+pub parsed-count : (s : List ℕ) → parsed s .layout .count ≤ moduleLimit
+unfolding noLayout
+parsed-count s =
+    ⊎-elim
+    (λ (h : passes (submissionChecks s) ≡ true). rw (parsed-layout s h, layout-count s) (accepted s h .count))
+    (λ (h : passes (submissionChecks s) ≡ false). rw (parsed-none s h) (omega arith))
+    (true-or-false (passes (submissionChecks s)))
+
+module _ (s : List ℕ) (h : Accepted s) where
+  pub image-inside : imageStart s + imageLength s ≤ length s
+  image-inside = omega (arith, h .end, data-order s 0 (moduleCount s) (omega arith), data-behind-line s)
+
+  pub line-inside : lineStart s + lineLength s ≤ length s
+  line-inside = omega (arith, h .end, data-order s 0 (moduleCount s) (omega arith), data-behind-line s)
+
+  pub string-inside : (i : ℕ) → i < moduleCount s → stringStart s i + stringLength s i ≤ length s
+  string-inside i l = omega (arith, h .end, data-order s (i + 1) (moduleCount s) (omega arith), data-behind-string s i)
+
+  pub data-inside : (i : ℕ) → i < moduleCount s → dataStart s i + dataLength s i ≤ length s
+  data-inside i l = omega (arith, string-inside i l)
+
+  pub line-no-zero : (i : ℕ) → i < lineLength s → getD s (lineStart s + i) 0 ≡ 0 → ⊥
+  line-no-zero i l e = part-no-zero s (lineOf s) line-inside (h .line-text) i l e
+
+  pub string-no-zero : (i : ℕ) → i < moduleCount s → (j : ℕ) → j < stringLength s i → getD s (stringStart s i + j) 0 ≡ 0 → ⊥
+  string-no-zero i l j k e = part-no-zero s (moduleOf s i .string) (string-inside i l) (h .string-text i l) j k e
+
+-- lengths of 32 bits, for a list of bytes
+module _ (s : List ℕ) (b : Bytes s) where
+  pub image-bound : imageLength s < 2 ^ 32
+  image-bound = number-bound 4 (drop 6 s) (bytes-drop 6 s b)
+
+  pub data-bound : (i : ℕ) → dataLength s i < 2 ^ 32
+  data-bound i = number-bound 4 (drop (entryAt i) s) (bytes-drop (entryAt i) s b)

@@ -1,0 +1,24 @@
+-- What the scans say, byte by byte.
+--     no-zero, zero-free      no byte is zero, as a test and for each index
+-- Assumes nothing.
+use mathlib.Core.Path.{_≡_, refl}
+use mathlib.Core.Bool.{false}
+use mathlib.Core.List.{List, [], _∷_}
+use Prim.Native.Nat.{ℕ, zero, suc, _<_}
+use native.Mathlib.Omega.{arith}
+use lib.Dec.{eqb}
+use lib.ListN.{length, getD}
+use borrow.Author.Tests.{eqb-false, ne-eqb}
+use Rattle.laws.specs.TestLaws.{or-none-left, or-none-right}
+use Rattle.submission.specs.Scan.{hasZero}
+
+pub no-zero : (s : List ℕ) → hasZero s ≡ false → (i : ℕ) → i < length s → getD s i 0 ≡ 0 → ⊥
+unfolding hasZero
+no-zero [] h i l e = omega arith
+no-zero (x ∷ s) h zero l e = eqb-false x 0 (or-none-left (eqb x 0) (hasZero s) h) e
+no-zero (x ∷ s) h (suc i) l e = no-zero s (or-none-right (eqb x 0) (hasZero s) h) i (omega arith) e
+
+pub zero-free : (s : List ℕ) → ((i : ℕ) → i < length s → getD s i 0 ≡ 0 → ⊥) → hasZero s ≡ false
+unfolding hasZero
+zero-free [] h = refl
+zero-free (x ∷ s) h = rw (ne-eqb x 0 (h 0 (omega arith))) (zero-free s (λ i l. h (suc i) (omega arith)))

@@ -1,0 +1,135 @@
+// A submission in the KSB format: where its parts lie, and whether it keeps the format's rules.
+ghost use mathlib.Core.Path.{_≡_};
+ghost use Rattle.laws.specs.Checks.{firstOf};
+ghost use Rattle.submission.specs.Format.{noLayout, bytesOf};
+ghost use Rattle.submission.specs.Rules.{parsed};
+ghost use Rattle.submission.specs.CommandLine.{operatorChecks, commandLine};
+use answer::Answer;
+
+mod read;
+mod rules;
+mod scan;
+
+// The header's size.
+pub const HEADER: usize = 12;
+
+// The size of a module's entry in the table behind the header.
+pub const ENTRY: usize = 8;
+
+// At most so many modules.
+pub const MODULES: usize = 16;
+
+// At most so many bytes in a command line.
+pub const LINE: usize = 255;
+
+// At most so many bytes in a module's string.
+pub const STRING: u16 = 127;
+
+// A part of the submission, by its offset and length.
+pub struct Part {
+    pub at: usize,
+    pub len: usize,
+}
+
+// The parts of one module.
+pub struct Module {
+    pub data: Part,
+    pub string: Part,
+}
+
+// The parts of a submission; past the last module the entries are zero.
+pub struct Layout {
+    pub image: Part,
+    pub line: Part,
+    pub modules: [Module; MODULES],
+    pub count: usize,
+}
+
+// The answer for a submission, and its parts where it is accepted.
+pub struct Parsed {
+    pub answer: Answer,
+    pub layout: Layout,
+}
+
+// The answer for a submission: its parts, or 1 or 2 and no parts.
+pub fn parse(s: &[u8]) -> Parsed
+    ensures { λ r. ⌜ r ≡ parsed (now (s .entry)) ⌝ }
+{
+    if !rules::is_submission(s) {
+        return refused(Answer::NotASubmission);
+    }
+    let count = read::module_count(s);
+    if MODULES < count {
+        return refused(Answer::BadSubmission);
+    }
+    if s.len() < read::entry_at(count) {
+        return refused(Answer::BadSubmission);
+    }
+    let laid = read::read_layout(s, count);
+    let layout = laid.layout;
+    if !rules::rules_hold(s, layout, laid.end) {
+        return refused(Answer::BadSubmission);
+    }
+    Parsed {
+        answer: Answer::Load,
+        layout,
+    }
+}
+
+// A refusal has no parts.
+fn refused(a: Answer) -> Parsed
+    ensures { λ r. ⌜ r ≡ record { answer = a; layout = noLayout } ⌝ }
+{
+    Parsed {
+        answer: a,
+        layout: read::no_layout(),
+    }
+}
+
+// The answer for an operator's line: 3, or none.
+pub fn check_operator(line: &[u8]) -> Answer
+    ensures { λ r. ⌜ r ≡ firstOf (operatorChecks (now (line .entry))) Answer.Load ⌝ }
+{
+    if LINE < line.len() {
+        return Answer::BadOperatorLine;
+    }
+    if scan::has_zero(line) {
+        return Answer::BadOperatorLine;
+    }
+    Answer::Load
+}
+
+// The command line in force, as a part of the operator's line or of the submission; empty where either is refused.
+pub fn command_line<'a>(operator: &'a [u8], submission: &'a [u8]) -> &'a [u8]
+    ensures { λ r. ⌜ now r ≡ commandLine (now (operator .entry)) (now (submission .entry)) ⌝ }
+{
+    let read = parse(submission);
+    let verdict = read.answer;
+    if answer::number(verdict) != 0 {
+        return &submission[..0];
+    }
+    if answer::number(check_operator(operator)) != 0 {
+        return &operator[..0];
+    }
+    if 0 < operator.len() {
+        return operator;
+    }
+    let layout = read.layout;
+    bytes_of(submission, layout.line)
+}
+
+// The bytes of a part, cut where the slice ends.
+pub fn bytes_of<'a>(s: &'a [u8], p: Part) -> &'a [u8]
+    ensures { λ r. ⌜ now r ≡ bytesOf (now (s .entry)) p ⌝ }
+{
+    let at = p.at;
+    let len = p.len;
+    if s.len() <= at {
+        return &s[..0];
+    }
+    if s.len() - at < len {
+        return &s[at..];
+    }
+    let end = at + len;
+    &s[at..end]
+}

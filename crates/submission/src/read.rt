@@ -1,0 +1,119 @@
+// Where the parts of a submission lie.
+ghost use mathlib.Core.Path.{_≡_};
+ghost use Prim.Native.Nat.{_+_, _^_, _≤_, _<_};
+ghost use lib.ListN.{length};
+ghost use Rattle.submission.specs.Format.{moduleCount, headerSize, entrySize, entryAt, entryOf, partsEnd, moduleFrom, moduleLimit, layoutOf, noLayout};
+use crate::ENTRY;
+use crate::HEADER;
+use crate::Layout;
+use crate::MODULES;
+use crate::Module;
+use crate::Part;
+
+// The parts of a submission, and where the last one ends.
+pub struct Laid {
+    pub layout: Layout,
+    pub end: usize,
+}
+
+// What the table says of a module: the lengths of its data and its string, and two bytes that are to be zero.
+pub struct Entry {
+    pub bytes: u32,
+    pub string: u16,
+    pub reserved: u16,
+}
+
+// How many modules the header announces.
+pub fn module_count(s: &[u8]) -> usize
+    requires { ⌜ headerSize ≤ length (now s) ⌝ }
+    ensures { λ r. ⌜ (r ≡ moduleCount (now (s .entry))) × (r < 2 ^ 8) ⌝ }
+{
+    number::read_le(s, 5, 1) as usize
+}
+
+// Where the entry of module i begins, and behind the last entry the image.
+pub fn entry_at(i: usize) -> usize
+    requires { ⌜ entryAt i < 2 ^ 64 ⌝ }
+    ensures { λ r. ⌜ r ≡ entryAt i ⌝ }
+{
+    HEADER + ENTRY * i
+}
+
+// The entry of module i.
+pub fn read_entry(s: &[u8], i: usize) -> Entry
+    requires { ⌜ entryAt i + entrySize ≤ length (now s) ⌝ }
+    ensures { λ r. ⌜ r ≡ entryOf (now (s .entry)) i ⌝ }
+{
+    let at = entry_at(i);
+    Entry {
+        bytes: number::read_u32(s, at),
+        string: number::read_u16(s, at + 4),
+        reserved: number::read_u16(s, at + 6),
+    }
+}
+
+// The parts of a submission with `count` modules, whose table lies inside.
+pub fn read_layout(s: &[u8], count: usize) -> Laid
+    requires { ⌜ (count ≡ moduleCount (now s)) × (count ≤ moduleLimit) × (entryAt count ≤ length (now s)) ⌝ }
+    ensures { λ r. ⌜ (r .layout ≡ layoutOf (now (s .entry))) × (r .end ≡ partsEnd (now (s .entry))) ⌝ }
+{
+    let image = Part {
+        at: entry_at(count),
+        len: number::read_u32(s, 6) as usize,
+    };
+    let line = Part {
+        at: image.at + image.len,
+        len: number::read_u16(s, 10) as usize,
+    };
+    let empty = no_layout();
+    let mut modules = empty.modules;
+    let mut at = line.at + line.len;
+    let mut i = 0;
+    while i < count {
+        let m = module_from(at, read_entry(s, i));
+        modules[i] = m;
+        at = m.string.at + m.string.len;
+        i += 1;
+    }
+    Laid {
+        layout: Layout {
+            image,
+            line,
+            modules,
+            count,
+        },
+        end: at,
+    }
+}
+
+// The parts of a module with its data from `at` on.
+fn module_from(at: usize, entry: Entry) -> Module
+    requires { ⌜ at < 2 ^ 63 ⌝ }
+    ensures { λ r. ⌜ (r ≡ moduleFrom at entry) × (r .string .at + r .string .len < at + 2 ^ 33) ⌝ }
+{
+    let data = Part {
+        at,
+        len: entry.bytes as usize,
+    };
+    let string = Part {
+        at: at + data.len,
+        len: entry.string as usize,
+    };
+    Module { data, string }
+}
+
+// No parts.
+pub fn no_layout() -> Layout
+    ensures { λ r. ⌜ r ≡ noLayout ⌝ }
+{
+    let none = Part { at: 0, len: 0 };
+    Layout {
+        image: none,
+        line: none,
+        modules: [Module {
+            data: none,
+            string: none,
+        }; MODULES],
+        count: 0,
+    }
+}

@@ -1,0 +1,94 @@
+// The rules that a submission keeps.
+ghost use mathlib.Core.Path.{_≡_};
+ghost use Prim.Native.Nat.{_≤_};
+ghost use lib.ListN.{length};
+ghost use Rattle.laws.specs.Tests.{allFrom};
+ghost use Rattle.submission.specs.Format.{moduleCount, entryAt, partsEnd, moduleLimit, layoutOf};
+ghost use Rattle.submission.specs.Rules.{isSubmission, inLimits, entryHolds, stringHolds, rulesHold};
+use crate::HEADER;
+use crate::LINE;
+use crate::Layout;
+use crate::STRING;
+use crate::bytes_of;
+use crate::read;
+use crate::read::Entry;
+use crate::scan;
+
+// Whether the header is there, with the mark and version 1.
+pub fn is_submission(s: &[u8]) -> bool
+    ensures { λ r. ⌜ r ≡ isSubmission (now (s .entry)) ⌝ }
+{
+    if s.len() < HEADER {
+        return false;
+    }
+    if !scan::same_bytes(&s[..3], b"KSB") {
+        return false;
+    }
+    number::read_u16(s, 3) == 1
+}
+
+// Whether every other rule holds, for a submission with these parts, the last of which ends at `end`.
+pub fn rules_hold(s: &[u8], l: Layout, end: usize) -> bool
+    requires { ⌜ (l ≡ layoutOf (now s)) × (end ≡ partsEnd (now s)) × (moduleCount (now s) ≤ moduleLimit) × (entryAt (moduleCount (now s)) ≤ length (now s)) ⌝ }
+    ensures { λ r. ⌜ r ≡ rulesHold (now (s .entry)) ⌝ }
+{
+    let line = l.line;
+    if LINE < line.len {
+        return false;
+    }
+    if !entries_hold(s, l.count) {
+        return false;
+    }
+    if end != s.len() {
+        return false;
+    }
+    if scan::has_zero(bytes_of(s, line)) {
+        return false;
+    }
+    strings_hold(s, l)
+}
+
+// Whether the entry of each module holds.
+fn entries_hold(s: &[u8], count: usize) -> bool
+    requires { ⌜ (count ≤ moduleLimit) × (entryAt count ≤ length (now s)) ⌝ }
+    ensures { λ r. ⌜ r ≡ allFrom (entryHolds (now (s .entry))) 0 count ⌝ }
+{
+    let mut i = 0;
+    while i < count {
+        if !in_limits(read::read_entry(s, i)) {
+            return false;
+        }
+        i += 1;
+    }
+    true
+}
+
+// Whether a module has data, a string that is not too long, and zero where its entry is reserved.
+fn in_limits(entry: Entry) -> bool
+    ensures { λ r. ⌜ r ≡ inLimits entry ⌝ }
+{
+    if entry.bytes < 1 {
+        return false;
+    }
+    if STRING < entry.string {
+        return false;
+    }
+    entry.reserved == 0
+}
+
+// Whether no module's string holds a zero byte.
+fn strings_hold(s: &[u8], l: Layout) -> bool
+    requires { ⌜ (l ≡ layoutOf (now s)) × (moduleCount (now s) ≤ moduleLimit) ⌝ }
+    ensures { λ r. ⌜ r ≡ allFrom (stringHolds (now (s .entry))) 0 (moduleCount (now (s .entry))) ⌝ }
+{
+    let count = l.count;
+    let mut i = 0;
+    while i < count {
+        let m = l.modules[i];
+        if scan::has_zero(bytes_of(s, m.string)) {
+            return false;
+        }
+        i += 1;
+    }
+    true
+}
