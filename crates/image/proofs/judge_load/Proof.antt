@@ -1,0 +1,48 @@
+-- `image::judge_load` meets its contract: the answer of its checks with its kernel.
+-- Assumes nothing.
+use mathlib.Core.Path.{_∙_}
+use Prim.Native.Nat.{_^_, _<_}
+use native.Mathlib.Omega.{arith}
+use borrow.Author.Needs.{needs}
+use Rattle.image.proofs.Refusals.{length-fits}
+use Rattle.image.proofs.judge_load.Statement.{statement}
+use Rattle.image.proofs.judge_load.Tie as tie
+
+-- the load is no longer than a slice or a 32-bit number
+short : (c : tie.After-load-length) → c .load-length .result < 2 ^ 63
+short c =
+    let start = c .before in
+    rw (c .load-length .ensures) (length-fits (start .args .h) (start .args .offset .0) (start .args .n) (start .pre .0) (start .pre .2))
+
+load-length-requires : tie.Need-load-length-requires
+load-length-requires c κs = search needs
+
+check-load-requires : tie.Need-check-load-requires
+check-load-requires c κs = omega (arith, short c, c .before .pre .0 .load)
+
+on-pages-requires : tie.Need-on-pages-requires
+on-pages-requires c κs = search needs
+
+kernel-at-requires : tie.Need-kernel-at-requires
+kernel-at-requires c κs = omega (arith, short (c .before .before), c .before .before .before .pre .0 .load)
+
+with-kernel-requires : tie.Need-with-kernel-requires
+with-kernel-requires c κs = search needs
+
+returns : tie.Need-returns
+returns c =
+    let pages = c .before .before in
+    let answer = pages .before in
+    let len = answer .before in
+    c .with-kernel .ensures ∙ rw (c .before .kernel-at .ensures, pages .on-pages .ensures, answer .check-load .ensures, len .load-length .ensures)
+
+pub judge-load-spec : {M : Type 1} → statement M
+judge-load-spec =
+    tie.close
+    (tie.spec
+    load-length-requires
+    check-load-requires
+    on-pages-requires
+    kernel-at-requires
+    with-kernel-requires
+    returns)

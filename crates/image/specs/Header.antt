@@ -1,0 +1,49 @@
+-- The Multiboot header of an image.                                  rule: header search
+--     magic, searched, headerLength    the numbers of the rule
+--     words                            the numbers that bytes make, four by four
+--     isHeader, headerFrom, header     the search, word by word from the front
+-- Its answer in propositions is in HeaderLaws.
+-- Assumes nothing.
+use mathlib.Core.Bool.{Bool, cond, _&&_}
+use mathlib.Core.List.{List, [], _∷_}
+use Prim.Native.Nat.{ℕ, _+_, _%_, _^_}
+use lib.Dec.{eqb}
+use lib.ListN.{take}
+use Rattle.number.specs.Number.{number}
+use Rattle.image.specs.declared.header.Search.{Search}
+use Rattle.image.specs.declared.header.Search.the-variants.{At, Nothing}
+
+-- a header begins with this number
+abbrev pub magic : ℕ
+magic = 0x1BADB002
+
+-- it lies wholly in so many bytes from the image's start
+abbrev pub searched : ℕ
+searched = 8192
+
+-- magic, flags and checksum
+abbrev pub headerLength : ℕ
+headerLength = 12
+
+-- the numbers that a list's bytes make, four by four; what is left of fewer than four is no number
+unfoldable pub words : List ℕ → List ℕ
+words [] = []
+words (a ∷ []) = []
+words (a ∷ b ∷ []) = []
+words (a ∷ b ∷ c ∷ []) = []
+words (a ∷ b ∷ c ∷ d ∷ s) = number 4 (a ∷ b ∷ c ∷ d ∷ []) ∷ words s
+
+-- the first word is the magic, and magic, flags and checksum, summed modulo 2^32, give 0
+unfoldable pub isHeader : ℕ → ℕ → ℕ → Bool
+isHeader m flags checksum = eqb m magic && eqb ((m + flags + checksum) % 2 ^ 32) 0
+
+-- the lowest of three words in a row that are a header's; the first word stands at the offset `at`
+unfoldable pub headerFrom : ℕ → List ℕ → Search
+headerFrom at [] = Nothing
+headerFrom at (m ∷ []) = Nothing
+headerFrom at (m ∷ f ∷ []) = Nothing
+headerFrom at (m ∷ f ∷ c ∷ ws) = let r = headerFrom (at + 4) (f ∷ c ∷ ws) in cond (isHeader m f c) (At (record { 0 = at })) r
+
+-- the header of an image: the lowest in its searched part
+unfoldable pub header : List ℕ → Search
+header image = headerFrom 0 (words (take searched image))

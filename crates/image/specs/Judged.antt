@@ -1,0 +1,133 @@
+-- The answer for an image, and its kernel.                           rule: numbered answers 6 to 14
+--     noHeader, offsetOf                     what the header search found: 6
+--     unknownRequest, noAddresses, cutOff, beforeImage, nothingLeft, pastImage, bssBelow, entryOutside
+--                                            the conditions of 7 to 14
+--     headerChecks, loadChecks               the checks on the header, 6 to 10, and on the load, 11 to 14
+--     imageChecks                            both, in order
+--     noSegment, noKernel                    zeros
+--     segmentAt, kernelAt, kernelOf          the kernel that an image asks for
+--     refused, withKernel, judged            the answer, and the kernel beside it
+-- Assumes nothing.
+use mathlib.Core.Bool.{Bool, true, false, cond, not, _&&_, _||_}
+use mathlib.Core.List.{List, [], _∷_, _++_}
+use Prim.Native.Nat.{ℕ, _+_, _-_, _/_, _%_, _^_}
+use lib.Dec.{eqb, leb, ltb}
+use lib.ListN.{length, replicate}
+use Rattle.laws.specs.Checks.{Check, _gives_, firstOf}
+use Rattle.answer.specs.Answer.{numberOf}
+use Rattle.answer.specs.declared.Answer.{Answer}
+use Rattle.answer.specs.declared.Answer.the-variants.{Load, NoHeader, UnknownRequest, NoAddressFields, HeaderCutOff, LoadBeforeImage, NothingToLoad, LoadPastImage, BssBelowLoadEnd, EntryOutsideLoad}
+use Rattle.image.specs.declared.header.Search.{Search}
+use Rattle.image.specs.declared.header.Search.the-variants.{At, Nothing}
+use Rattle.image.specs.declared.load.Fields.{Fields}
+use Rattle.image.specs.declared.Segment.{Segment}
+use Rattle.image.specs.declared.Kernel.{Kernel}
+use Rattle.image.specs.declared.Judged.{Judged}
+use Rattle.image.specs.Header.{searched, header}
+use Rattle.image.specs.Load.{flagsAt, fieldsAt, onPages, wholeLength, loadOffset, loadLength, loadEnd, extentEnd}
+
+-- 6: no header
+abbrev pub noHeader : Search → Bool
+noHeader Nothing = true
+noHeader (At o) = false
+
+-- 0 where there is no header
+abbrev pub offsetOf : Search → ℕ
+offsetOf Nothing = 0
+offsetOf (At o) = o .0
+
+-- 7: any of header flag bits 2 to 15 set
+abbrev pub unknownRequest : ℕ → Bool
+unknownRequest flags = not (eqb (flags / 2 ^ 2 % 2 ^ 14) 0)
+
+-- 8: bit 16 clear
+abbrev pub noAddresses : ℕ → Bool
+noAddresses flags = eqb (flags / 2 ^ 16 % 2) 0
+
+-- 9: header offset + 32 beyond 8,192 or beyond the image
+abbrev pub cutOff : ℕ → ℕ → Bool
+cutOff o n = ltb searched (o + wholeLength) || ltb n (o + wholeLength)
+
+-- 10: load_addr above header_addr, or header_addr − load_addr above the header's offset
+abbrev pub beforeImage : Fields → ℕ → Bool
+beforeImage h o = ltb (h .header .0) (h .load .0) || ltb o (h .header .0 - h .load .0)
+
+-- 11: load_end_addr zero and no image byte left from the load offset on
+abbrev pub nothingLeft : Fields → ℕ → ℕ → Bool
+nothingLeft h offset n = eqb (h .end .0) 0 && leb n offset
+
+-- 12: load_end_addr nonzero and below load_addr, or load offset + load length beyond the image
+abbrev pub pastImage : Fields → ℕ → ℕ → ℕ → Bool
+pastImage h offset len n = not (eqb (h .end .0) 0) && ltb (h .end .0) (h .load .0) || ltb n (offset + len)
+
+-- 13: bss_end_addr nonzero and below the load end e
+abbrev pub bssBelow : Fields → ℕ → Bool
+bssBelow h e = not (eqb (h .bss .0) 0) && ltb (h .bss .0) e
+
+-- 14: entry_addr below load_addr or not below the load end e
+abbrev pub entryOutside : Fields → ℕ → Bool
+entryOutside h e = ltb (h .entry .0) (h .load .0) || leb e (h .entry .0)
+
+-- the checks on the header
+unfoldable pub headerChecks : List ℕ → List (Check Answer)
+headerChecks image =
+    let o = offsetOf (header image) in
+    noHeader (header image) gives NoHeader
+    ∷ unknownRequest (flagsAt image o) gives UnknownRequest
+    ∷ noAddresses (flagsAt image o) gives NoAddressFields
+    ∷ cutOff o (length image) gives HeaderCutOff
+    ∷ beforeImage (fieldsAt image o) o gives LoadBeforeImage
+    ∷ []
+
+-- the checks on the load of `len` bytes from `offset` on, of an image of n bytes
+unfoldable pub loadChecks : Fields → ℕ → ℕ → ℕ → List (Check Answer)
+loadChecks h offset len n =
+    nothingLeft h offset n gives NothingToLoad
+    ∷ pastImage h offset len n gives LoadPastImage
+    ∷ bssBelow h (loadEnd h len) gives BssBelowLoadEnd
+    ∷ entryOutside h (loadEnd h len) gives EntryOutsideLoad
+    ∷ []
+
+-- all of them, in order
+unfoldable pub imageChecks : List ℕ → List (Check Answer)
+imageChecks image =
+    let o = offsetOf (header image) in
+    let h = fieldsAt image o in
+    let offset = loadOffset h o in
+    headerChecks image ++ loadChecks h offset (loadLength h offset (length image)) (length image)
+
+abbrev pub noSegment : Segment
+noSegment = record { start = record { 0 = 0 }; loaded = record { 0 = 0 }; end = record { 0 = 0 }; offset = record { 0 = 0 } }
+
+abbrev pub noKernel : Kernel
+noKernel = record { header = record { 0 = 0 }; pages = false; entry = record { 0 = 0 }; segments = replicate 16 noSegment; count = 0 }
+
+-- the segment of `len` bytes from `offset` on: from load_addr to the load end, and the bss behind it
+abbrev pub segmentAt : Fields → ℕ → ℕ → Segment
+segmentAt h offset len =
+    record { start = h .load; loaded = record { 0 = loadEnd h len }; end = record { 0 = extentEnd h len }; offset = record { 0 = offset } }
+
+-- the kernel of a header at o: one segment
+unfoldable pub kernelAt : Fields → Bool → ℕ → ℕ → ℕ → Kernel
+kernelAt h pages o offset len =
+    record { header = record { 0 = o }; pages = pages; entry = h .entry; segments = segmentAt h offset len ∷ replicate 15 noSegment; count = 1 }
+
+-- the kernel that an image asks for
+unfoldable pub kernelOf : List ℕ → Kernel
+kernelOf image =
+    let o = offsetOf (header image) in
+    let h = fieldsAt image o in
+    let offset = loadOffset h o in
+    kernelAt h (onPages (flagsAt image o)) o offset (loadLength h offset (length image))
+
+-- a refusal comes with zeros
+abbrev pub refused : Answer → Judged
+refused a = record { answer = a; kernel = noKernel }
+
+-- a load, number 0, comes with its kernel
+unfoldable pub withKernel : Answer → Kernel → Judged
+withKernel a k = record { answer = a; kernel = cond (eqb (numberOf a) 0) k noKernel }
+
+-- the first check that applies gives the answer
+unfoldable pub judged : List ℕ → Judged
+judged image = withKernel (firstOf (imageChecks image) Load) (kernelOf image)

@@ -1,0 +1,156 @@
+-- What is known of an image that no check refuses, and of the kernel that it asks for.
+--     judged-answer, judged-load, judged-refusal    the parts of the answer for an image
+--     passed, not-cut-off                           a check that did not apply
+--     segment                                       the kernel's one segment
+--     Accepted, accepted                            where its header, its load bytes and its entry lie
+--     Small, small                                  how large its addresses are
+-- Assumes nothing.
+use mathlib.Core.Path.{_≡_, refl, sym, _∙_}
+use mathlib.Core.Bool.{Bool, true, false, not, _&&_, false≢true}
+use mathlib.Core.List.{List, _∷_}
+use Prim.Native.Nat.{ℕ, zero, suc, _+_, _-_, _^_, _≤_, _<_}
+use native.Mathlib.Omega.{arith}
+use borrow.Author.Tests.{ltb-false, leb-false}
+use lib.Dec.{eqb, leb, ltb}
+use lib.ListN.{length, getD, replicate}
+use Rattle.laws.specs.Checks.{Check, _gives_, firstOf}
+use Rattle.laws.specs.TestLaws.{or-none-left, or-none-right}
+use Rattle.number.specs.Number.{numberAt}
+use Rattle.number.specs.NumberLaws.{Bytes, bytes-drop, number-bound}
+use Rattle.answer.specs.Answer.{numberOf}
+use Rattle.answer.specs.declared.Answer.{Answer}
+use Rattle.answer.specs.declared.Answer.the-variants.{Load, NoHeader, UnknownRequest, NoAddressFields, HeaderCutOff, LoadBeforeImage, NothingToLoad, LoadPastImage, BssBelowLoadEnd, EntryOutsideLoad}
+use Rattle.image.specs.declared.header.Search.{Search}
+use Rattle.image.specs.declared.header.Search.the-variants.{At, Nothing}
+use Rattle.image.specs.declared.load.Fields.{Fields}
+use Rattle.image.specs.declared.Segment.{Segment}
+use Rattle.image.specs.declared.Kernel.{Kernel}
+use Rattle.image.specs.Header.{searched, header}
+use Rattle.image.specs.Load.{flagsAt, fieldsAt, wholeLength, onPages, loadOffset, loadLength, loadEnd}
+use Rattle.image.specs.Judged.{noHeader, offsetOf, unknownRequest, noAddresses, cutOff, beforeImage, nothingLeft, pastImage, bssBelow, entryOutside, headerChecks, loadChecks, imageChecks, noSegment, noKernel, kernelAt, kernelOf, withKernel, judged}
+
+module _ (image : List ℕ) where
+  pub judged-answer : judged image .answer ≡ firstOf (imageChecks image) Load
+  unfolding judged withKernel
+  judged-answer = refl
+
+  -- an accepted image comes with its kernel
+  pub judged-load : firstOf (imageChecks image) Load ≡ Load → judged image .kernel ≡ kernelOf image
+  unfolding judged withKernel
+  judged-load e = rw e
+
+  -- a refusal comes with zeros
+  pub judged-refusal : eqb (numberOf (firstOf (imageChecks image) Load)) 0 ≡ false → judged image .kernel ≡ noKernel
+  unfolding judged withKernel
+  judged-refusal e = rw e
+
+-- where a chain ends in a load, no check of it applied
+pub passed : (t : Bool) (a : Answer) (ks : List (Check Answer)) → eqb (numberOf a) 0 ≡ false → firstOf (t gives a ∷ ks) Load ≡ Load → (t ≡ false) × (firstOf ks Load ≡ Load)
+unfolding firstOf
+passed true a ks n e = let z : eqb (numberOf a) 0 ≡ true = rw e in absurd (false≢true (sym n ∙ z))
+passed false a ks n e = (refl, e)
+
+-- the conditions of the checks, where they do not hold
+there : (r : Search) → noHeader r ≡ false → r ≡ At (record { 0 = offsetOf r })
+there Nothing e = absurd (false≢true (sym e))
+there (At o) e = refl
+
+pub not-cut-off : (o n : ℕ) → cutOff o n ≡ false → (o + wholeLength ≤ searched) × (o + wholeLength ≤ n)
+not-cut-off o n e =
+    let p = ltb searched (o + wholeLength) in
+    let q = ltb n (o + wholeLength) in
+    (ltb-false _ _ (or-none-left p q e), ltb-false _ _ (or-none-right p q e))
+
+not-before : (h : Fields) (o : ℕ) → beforeImage h o ≡ false → (h .load .0 ≤ h .header .0) × (h .header .0 - h .load .0 ≤ o)
+not-before h o e =
+    let p = ltb (h .header .0) (h .load .0) in
+    let q = ltb o (h .header .0 - h .load .0) in
+    (ltb-false _ _ (or-none-left p q e), ltb-false _ _ (or-none-right p q e))
+
+not-past : (h : Fields) (offset len n : ℕ) → pastImage h offset len n ≡ false → offset + len ≤ n
+not-past h offset len n e = ltb-false _ _ (or-none-right (not (eqb (h .end .0) 0) && ltb (h .end .0) (h .load .0)) (ltb n (offset + len)) e)
+
+not-outside : (h : Fields) (end : ℕ) → entryOutside h end ≡ false → (h .load .0 ≤ h .entry .0) × (h .entry .0 < end)
+not-outside h end e =
+    let p = ltb (h .entry .0) (h .load .0) in
+    let q = leb end (h .entry .0) in
+    (ltb-false _ _ (or-none-left p q e), leb-false _ _ (or-none-right p q e))
+
+-- the kernel's one segment
+abbrev pub segment : Kernel → Segment
+segment k = getD (k .segments) 0 noSegment
+
+pub record Accepted (image : List ℕ) (k : Kernel) : Type 0 where
+  -- the header is the one that the search finds, whole with its address fields
+  pub found : header image ≡ At (k .header)
+  pub early : k .header .0 + wholeLength ≤ searched
+  pub whole : k .header .0 + wholeLength ≤ length image
+  pub pages : k .pages ≡ onPages (flagsAt image (k .header .0))
+  -- there is one segment, and zeros past it
+  pub one : k .count ≡ 1
+  pub rest : (i : ℕ) → 1 ≤ i → getD (k .segments) i noSegment ≡ noSegment
+  -- the load bytes lie inside the image, the entry among them, the bss behind them
+  pub inside : segment k .offset .0 + (segment k .loaded .0 - segment k .start .0) ≤ length image
+  pub low : segment k .start .0 ≤ k .entry .0
+  pub high : k .entry .0 < segment k .loaded .0
+  pub end : segment k .loaded .0 ≤ segment k .end .0
+
+getD-none : (n i : ℕ) → getD (replicate n noSegment) i noSegment ≡ noSegment
+getD-none zero i = refl
+getD-none (suc n) zero = refl
+getD-none (suc n) (suc i) = getD-none n i
+
+past-first : (s : Segment) (n i : ℕ) → 1 ≤ i → getD (s ∷ replicate n noSegment) i noSegment ≡ noSegment
+past-first s n zero l = absurd (omega arith)
+past-first s n (suc i) l = getD-none n i
+
+pub accepted : (image : List ℕ) → firstOf (imageChecks image) Load ≡ Load → Accepted image (kernelOf image)
+unfolding imageChecks headerChecks loadChecks kernelOf kernelAt
+accepted image e =
+    let o = offsetOf (header image) in
+    let h = fieldsAt image o in
+    let offset = loadOffset h o in
+    let len = loadLength h offset (length image) in
+    let r6 = passed (noHeader (header image)) NoHeader _ refl e in
+    let r7 = passed (unknownRequest (flagsAt image o)) UnknownRequest _ refl (r6 .1) in
+    let r8 = passed (noAddresses (flagsAt image o)) NoAddressFields _ refl (r7 .1) in
+    let r9 = passed (cutOff o (length image)) HeaderCutOff _ refl (r8 .1) in
+    let r10 = passed (beforeImage h o) LoadBeforeImage _ refl (r9 .1) in
+    let r11 = passed (nothingLeft h offset (length image)) NothingToLoad _ refl (r10 .1) in
+    let r12 = passed (pastImage h offset len (length image)) LoadPastImage _ refl (r11 .1) in
+    let r13 = passed (bssBelow h (loadEnd h len)) BssBelowLoadEnd _ refl (r12 .1) in
+    let r14 = passed (entryOutside h (loadEnd h len)) EntryOutsideLoad _ refl (r13 .1) in
+    let at = not-cut-off o (length image) (r9 .0) in
+    let entry = not-outside h (loadEnd h len) (r14 .0) in
+    record {
+      found = there (header image) (r6 .0);
+      early = at .0;
+      whole = at .1;
+      pages = refl;
+      one = refl;
+      rest = past-first _ 15;
+      inside = omega (arith, not-past h offset len (length image) (r12 .0));
+      low = entry .0;
+      high = entry .1;
+      end = omega arith;
+    }
+
+-- the addresses of an image of bytes: fields below 2^32, and the ends as far above as the image is long
+pub record Small (image : List ℕ) (k : Kernel) : Type 0 where
+  pub start : segment k .start .0 < 2 ^ 32
+  pub entry : k .entry .0 < 2 ^ 32
+  pub end : segment k .end .0 < 2 ^ 32 + length image
+
+word-small : (image : List ℕ) (at : ℕ) → Bytes image → numberAt 4 image at < 2 ^ 32
+word-small image at b = number-bound 4 _ (bytes-drop at image b)
+
+pub small : (image : List ℕ) → Bytes image → firstOf (imageChecks image) Load ≡ Load → Small image (kernelOf image)
+unfolding fieldsAt kernelOf kernelAt
+small image b e =
+    let o = offsetOf (header image) in
+    let k = accepted image e in
+    record {
+      start = word-small image (o + 16) b;
+      entry = word-small image (o + 28) b;
+      end = omega (arith, k .inside, word-small image (o + 16) b, word-small image (o + 24) b);
+    }

@@ -1,0 +1,9 @@
+-- What the load calculation in 64-bit numbers rests on.
+--     Narrow    the address fields are below 2^32
+-- Assumes nothing.
+use Prim.Native.Nat.{_<_, _^_}
+use Rattle.image.specs.declared.load.Fields.{Fields}
+
+pub record Narrow (h : Fields) : Type 0 where
+  pub load : h .load .0 < 2 ^ 32
+  pub end : h .end .0 < 2 ^ 32

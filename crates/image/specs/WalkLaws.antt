@@ -1,0 +1,98 @@
+-- Laws of the header search, step by step.
+--     found-at, passed-at, none-left      a header at a place, none there, and too few bytes left
+--     whole-image, first-part             the part that is searched
+--     other-magic, by-sum                 the test of three words
+-- Assumes nothing.
+use mathlib.Core.Path.{_≡_, refl, ap, sym}
+use mathlib.Core.Bool.{true, false}
+use mathlib.Core.List.{List, [], _∷_}
+use Prim.Native.Nat.{ℕ, _+_, _*_, _%_, _^_, _≤_, _<_}
+use native.Mathlib.Omega.{arith}
+use lib.Dec.{eqb}
+use lib.ListN.{length, take, drop, length-drop}
+use lib.Seq.{drop-drop, take-all}
+use borrow.Author.Tests.{eq-eqb, ne-eqb}
+use Rattle.number.specs.Number.{number, numberAt}
+use Rattle.image.specs.declared.header.Search.the-variants.{At, Nothing}
+use Rattle.image.specs.Header.{magic, searched, headerLength, words, isHeader, headerFrom, header}
+
+words-cons : (s : List ℕ) → 4 ≤ length s → words s ≡ number 4 s ∷ words (drop 4 s)
+unfolding words number
+words-cons [] h = absurd (omega arith)
+words-cons (a ∷ []) h = absurd (omega arith)
+words-cons (a ∷ b ∷ []) h = absurd (omega arith)
+words-cons (a ∷ b ∷ c ∷ []) h = absurd (omega arith)
+words-cons (a ∷ b ∷ c ∷ d ∷ s) h = refl
+
+words-two : (s : List ℕ) → headerLength ≤ length s → words (drop 4 s) ≡ number 4 (drop 4 s) ∷ number 4 (drop 8 s) ∷ words (drop 12 s)
+words-two s h =
+    let h4 : 4 ≤ length (drop 4 s) = simp length-drop (omega arith) in
+    let h8 : 4 ≤ length (drop 8 s) = simp length-drop (omega arith) in
+    rw (words-cons (drop 4 s), drop-drop 4 4 s, words-cons (drop 8 s), drop-drop 4 8 s)
+
+-- 12 bytes are three words
+words-three : (s : List ℕ) → headerLength ≤ length s → words s ≡ number 4 s ∷ number 4 (drop 4 s) ∷ number 4 (drop 8 s) ∷ words (drop 12 s)
+words-three s h = rw (words-cons s (omega arith)) (ap (λ (l : List ℕ). number 4 s ∷ l) (words-two s h))
+
+pub here : (at m f k : ℕ) (ws : List ℕ) → isHeader m f k ≡ true → headerFrom at (m ∷ f ∷ k ∷ ws) ≡ At (record { 0 = at })
+unfolding headerFrom
+here at m f k ws e = rw e
+
+pub on : (at m f k : ℕ) (ws : List ℕ) → isHeader m f k ≡ false → headerFrom at (m ∷ f ∷ k ∷ ws) ≡ headerFrom (at + 4) (f ∷ k ∷ ws)
+unfolding headerFrom
+on at m f k ws e = rw e
+
+module _ (at : ℕ) (s : List ℕ) (h : headerLength ≤ length s) where
+  found-here : isHeader (number 4 s) (number 4 (drop 4 s)) (number 4 (drop 8 s)) ≡ true → headerFrom at (words s) ≡ At (record { 0 = at })
+  found-here e = rw (words-three s h) (here at _ _ _ _ e)
+
+  passed : isHeader (number 4 s) (number 4 (drop 4 s)) (number 4 (drop 8 s)) ≡ false → headerFrom at (words s) ≡ headerFrom (at + 4) (words (drop 4 s))
+  passed e = rw (words-three s h, words-two s h) (on at _ _ _ _ e)
+
+module _ (at : ℕ) (s : List ℕ) (h : at + headerLength ≤ length s) where
+  -- a header at a place is found there
+  pub found-at : isHeader (numberAt 4 s at) (numberAt 4 s (at + 4)) (numberAt 4 s (at + 8)) ≡ true → headerFrom at (words (drop at s)) ≡ At (record { 0 = at })
+  found-at e = found-here at (drop at s) (simp length-drop (omega arith)) (simp drop-drop e)
+
+  -- a place with no header is passed
+  pub passed-at : isHeader (numberAt 4 s at) (numberAt 4 s (at + 4)) (numberAt 4 s (at + 8)) ≡ false → headerFrom at (words (drop at s)) ≡ headerFrom (at + 4) (words (drop (at + 4) s))
+  passed-at e = rw (← drop-drop 4 at s) (passed at (drop at s) (simp length-drop (omega arith)) (simp drop-drop e))
+
+pub length-words : (s : List ℕ) → 4 * length (words s) ≤ length s
+unfolding words
+length-words [] = omega arith
+length-words (a ∷ []) = omega arith
+length-words (a ∷ b ∷ []) = omega arith
+length-words (a ∷ b ∷ c ∷ []) = omega arith
+length-words (a ∷ b ∷ c ∷ d ∷ s) = omega (arith, length-words s)
+
+pub too-few : (at : ℕ) (ws : List ℕ) → length ws < 3 → headerFrom at ws ≡ Nothing
+unfolding headerFrom
+too-few at [] h = refl
+too-few at (m ∷ []) h = refl
+too-few at (m ∷ f ∷ []) h = refl
+too-few at (m ∷ f ∷ k ∷ ws) h = absurd (omega arith)
+
+-- fewer than 12 bytes hold no header
+pub none-left : (at : ℕ) (s : List ℕ) → length s < headerLength → headerFrom at (words s) ≡ Nothing
+none-left at s h = too-few at (words s) (omega (arith, length-words s))
+
+-- an image that is no longer than the searched part is searched whole
+pub whole-image : (s : List ℕ) → length s ≤ searched → headerFrom 0 (words s) ≡ header s
+unfolding header
+whole-image s h = ap (λ (l : List ℕ). headerFrom 0 (words l)) (sym (take-all searched s h))
+
+pub first-part : (s : List ℕ) → headerFrom 0 (words (take searched s)) ≡ header s
+unfolding header
+first-part s = refl
+
+pub other-magic : (m f k : ℕ) → (m ≡ magic → ⊥) → false ≡ isHeader m f k
+unfolding isHeader
+other-magic m f k h = rw (ne-eqb m magic h)
+
+-- t is the sum of the three, added one by one modulo 2^32
+pub by-sum : (m f k s t : ℕ) → m ≡ magic → s ≡ (m + f) % 2 ^ 32 → t ≡ (s + k) % 2 ^ 32 → eqb t 0 ≡ isHeader m f k
+unfolding isHeader
+by-sum m f k s t e p q =
+    let z : t ≡ (m + f + k) % 2 ^ 32 = omega arith in
+    rw (eq-eqb m magic e, z)

@@ -1,0 +1,113 @@
+// The checks on the header and on the load.
+use crate::header;
+use crate::load;
+use crate::load::Fields;
+use address::ImageOffset;
+use address::PhysAddr;
+use answer::Answer;
+ghost use mathlib.Core.Path.{_≡_};
+ghost use mathlib.Core.Bool.{not, _&&_};
+ghost use Prim.Native.Nat.{_+_, _^_, _<_};
+ghost use lib.Dec.{eqb, ltb};
+ghost use Rattle.laws.specs.Checks.{firstOf};
+ghost use Rattle.image.specs.Header.{searched};
+ghost use Rattle.image.specs.Load.{loadEnd};
+ghost use Rattle.image.specs.Judged.{unknownRequest, noAddresses, cutOff, nothingLeft, pastImage, bssBelow, entryOutside, loadChecks};
+
+// Whether any of flag bits 2 to 15 is set.
+pub fn unknown_request(flags: u32) -> bool
+    ensures { λ r. ⌜ r ≡ unknownRequest flags ⌝ }
+{
+    flags / 4 % 16384 != 0
+}
+
+// Whether flag bit 16 is clear.
+pub fn no_addresses(flags: u32) -> bool
+    ensures { λ r. ⌜ r ≡ noAddresses flags ⌝ }
+{
+    flags / 65536 % 2 == 0
+}
+
+// Whether the address fields of a header run past the searched part, or past the image of n bytes.
+pub fn cut_off(at: ImageOffset, n: usize) -> bool
+    requires { ⌜ at .0 < searched ⌝ }
+    ensures { λ r. ⌜ r ≡ cutOff (at .0) n ⌝ }
+{
+    let end = at.0 + load::WHOLE_LENGTH;
+    if header::SEARCHED < end {
+        return true;
+    }
+    n < end
+}
+
+// The first of checks 11 to 14 that refuses a load of `len` bytes from the offset, of an image of n bytes.
+pub fn check_load(h: Fields, offset: ImageOffset, len: usize, n: usize) -> Answer
+    requires { ⌜ (offset .0 + len < 2 ^ 64) × (loadEnd h len < 2 ^ 64) ⌝ }
+    ensures { λ r. ⌜ r ≡ firstOf (loadChecks h (offset .0) len n) Answer.Load ⌝ }
+{
+    let loaded = load::load_end(h, len);
+    if nothing_left(h, offset, n) {
+        return Answer::NothingToLoad;
+    }
+    if past_image(h, offset, len, n) {
+        return Answer::LoadPastImage;
+    }
+    if bss_below(h, loaded) {
+        return Answer::BssBelowLoadEnd;
+    }
+    if entry_outside(h, loaded) {
+        return Answer::EntryOutsideLoad;
+    }
+    Answer::Load
+}
+
+// Whether no image byte is left to load.
+fn nothing_left(h: Fields, offset: ImageOffset, n: usize) -> bool
+    ensures { λ r. ⌜ r ≡ nothingLeft h (offset .0) n ⌝ }
+{
+    if h.end.0 != 0 {
+        return false;
+    }
+    n <= offset.0
+}
+
+// Whether the load ends before it begins, or past the image.
+fn past_image(h: Fields, offset: ImageOffset, len: usize, n: usize) -> bool
+    requires { ⌜ offset .0 + len < 2 ^ 64 ⌝ }
+    ensures { λ r. ⌜ r ≡ pastImage h (offset .0) len n ⌝ }
+{
+    if ends_early(h) {
+        return true;
+    }
+    n < offset.0 + len
+}
+
+// Whether load_end_addr is given and below load_addr.
+fn ends_early(h: Fields) -> bool
+    ensures { λ r. ⌜ r ≡ not (eqb (h .end .0) 0) && ltb (h .end .0) (h .load .0) ⌝ }
+{
+    if h.end.0 == 0 {
+        return false;
+    }
+    h.end.0 < h.load.0
+}
+
+// Whether bss_end_addr is given and below the load end.
+fn bss_below(h: Fields, loaded: PhysAddr) -> bool
+    ensures { λ r. ⌜ r ≡ bssBelow h (loaded .0) ⌝ }
+{
+    if h.bss.0 == 0 {
+        return false;
+    }
+    h.bss.0 < loaded.0
+}
+
+// Whether the entry is not among the load bytes.
+fn entry_outside(h: Fields, loaded: PhysAddr) -> bool
+    ensures { λ r. ⌜ r ≡ entryOutside h (loaded .0) ⌝ }
+{
+    if h.entry.0 < h.load.0 {
+        return true;
+    }
+    loaded.0 <= h.entry.0
+}

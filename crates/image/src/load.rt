@@ -1,0 +1,106 @@
+// The load calculation: a header's address fields, and which bytes of the image go where.
+use crate::header::Search;
+use address::ImageOffset;
+use address::PhysAddr;
+ghost use mathlib.Core.Path.{_≡_};
+ghost use mathlib.Core.Bool.{cond};
+ghost use Prim.Native.Nat.{_+_, _-_, _^_, _≤_, _<_, max};
+ghost use lib.ListN.{length};
+ghost use Rattle.number.specs.Number.{numberAt};
+ghost use Rattle.image.specs.Load.{onPages, fieldsAt, wholeLength, loadOffset, loadLength, loadEnd};
+ghost use Rattle.image.specs.Narrow.{Narrow};
+ghost use Rattle.image.specs.Judged.{beforeImage};
+
+// A header with its address fields.
+pub const WHOLE_LENGTH: usize = 32;
+
+// The address fields of a header.
+pub struct Fields {
+    // header_addr: where the header goes
+    pub header: PhysAddr,
+    // load_addr: where the load begins
+    pub load: PhysAddr,
+    // load_end_addr: where it ends; 0 where all the image is loaded
+    pub end: PhysAddr,
+    // bss_end_addr: where the bss ends; 0 where there is none
+    pub bss: PhysAddr,
+    // entry_addr: where the kernel is entered
+    pub entry: PhysAddr,
+}
+
+// Whether the flags ask for page-aligned modules: bit 0.
+pub fn on_pages(flags: u32) -> bool
+    ensures { λ r. ⌜ r ≡ onPages flags ⌝ }
+{
+    flags % 2 != 0
+}
+
+// The address that stands at the offset `at`.
+fn read_address(image: &[u8], at: usize) -> PhysAddr
+    requires { ⌜ at + 4 ≤ length (now image) ⌝ }
+    ensures { λ r. ⌜ (r ≡ record { 0 = numberAt 4 (now (image .entry)) at }) × (r .0 < 2 ^ 32) ⌝ }
+{
+    PhysAddr(number::read_u32(image, at) as u64)
+}
+
+// The address fields of the header at the offset `at`.
+pub fn read_fields(image: &[u8], at: usize) -> Fields
+    requires { ⌜ at + wholeLength ≤ length (now image) ⌝ }
+    ensures { λ r. ⌜ (r ≡ fieldsAt (now (image .entry)) at) × Narrow r ⌝ }
+{
+    Fields {
+        header: read_address(image, at + 12),
+        load: read_address(image, at + 16),
+        end: read_address(image, at + 20),
+        bss: read_address(image, at + 24),
+        entry: read_address(image, at + 28),
+    }
+}
+
+// The load offset: as far before the header as load_addr is below header_addr, or nothing where that is before the image.
+// No other function goes between addresses and offsets.
+pub fn load_offset(h: Fields, header: ImageOffset) -> Search
+    ensures { λ r. ⌜ r ≡ cond (beforeImage h (header .0)) Search.Nothing (Search.At (record { 0 = loadOffset h (header .0) })) ⌝ }
+{
+    if h.header.0 < h.load.0 {
+        return Search::Nothing;
+    }
+    let back = (h.header.0 - h.load.0) as usize;
+    if header.0 < back {
+        return Search::Nothing;
+    }
+    Search::At(ImageOffset(header.0 - back))
+}
+
+// How far `to` lies behind `from`; 0 where it does not.
+fn distance(from: u64, to: u64) -> u64
+    ensures { λ r. ⌜ r ≡ to - from ⌝ }
+{
+    if from < to { to - from } else { 0 }
+}
+
+// How many of the image's n bytes are loaded.
+pub fn load_length(h: Fields, offset: ImageOffset, n: usize) -> usize
+    ensures { λ r. ⌜ r ≡ loadLength h (offset .0) n ⌝ }
+{
+    if h.end.0 == 0 {
+        distance(offset.0 as u64, n as u64) as usize
+    } else {
+        distance(h.load.0, h.end.0) as usize
+    }
+}
+
+// Where the load ends.
+pub fn load_end(h: Fields, len: usize) -> PhysAddr
+    requires { ⌜ loadEnd h len < 2 ^ 64 ⌝ }
+    ensures { λ r. ⌜ r ≡ record { 0 = loadEnd h len } ⌝ }
+{
+    PhysAddr(h.load.0 + len as u64)
+}
+
+// Where the kernel's extent ends: at the load end, or behind the bss.
+pub fn extent_end(h: Fields, loaded: PhysAddr) -> PhysAddr
+    ensures { λ r. ⌜ r ≡ record { 0 = max (loaded .0) (h .bss .0) } ⌝ }
+{
+    if loaded.0 < h.bss.0 { h.bss } else { loaded }
+}
