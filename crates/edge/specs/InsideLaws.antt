@@ -1,0 +1,18 @@
+-- Lying in a span, in propositions.
+--     inside-is    from the start up to but not including the end
+-- Assumes nothing.
+use mathlib.Core.Path.{_≡_}
+use mathlib.Core.Bool.{true}
+use mathlib.Core.Logic.{_↔_}
+use Prim.Native.Nat.{ℕ, _≤_, _<_}
+use borrow.Author.Tests.{lt-ltb, ltb-true, le-leb, leb-true}
+use lib.Dec.{leb, ltb}
+use Rattle.laws.specs.TestLaws.{and-left, and-right}
+use Rattle.address.specs.Address.{inside}
+
+pub inside-is : (start end a : ℕ) → (inside start end a ≡ true) ↔ ((start ≤ a) × (a < end))
+unfolding inside
+inside-is start end a = (
+  λ e. (leb-true start a (and-left (leb start a) (ltb a end) e), ltb-true a end (and-right (leb start a) (ltb a end) e)),
+  λ h. rw (le-leb start a (h .0), lt-ltb a end (h .1)),
+)

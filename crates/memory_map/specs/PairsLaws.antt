@@ -1,0 +1,284 @@
+-- Laws of the pairs of a map.
+--     Whole, GoodMap                                      pairs that keep their rules; what an accepted map keeps
+--     pair-on, count-begins, count-end                    where pairs begin, and that all of them count
+--     whole-more, whole-count, whole-next, whole-all      whole pairs, one more, and how many there are
+--     broken-bad, empty-bad, long-bad, many-bad           what refuses a map
+--     map-good, good-map, good-some, good-fills           a map is accepted exactly where it keeps all its rules
+--     parsed-bad, parsed-good, load-good                  what reading a map answers
+--     listed-at, listed-past, length-listed               which pair stands at which index
+--     pair-fits, listed-fits                              the ranges of a pair's fields
+--     parsed-count, parsed-length, parsed-fits            the same of what reading a map gives, refused or not
+-- Assumes nothing.
+use mathlib.Core.Path.{_≡_, refl, ap, sym, _∙_}
+use mathlib.Core.Bool.{true, false, _||_, false≢true}
+use mathlib.Core.List.{List, [], _∷_}
+use mathlib.Core.Logic.{⊎-elim}
+use Prim.Native.Nat.{ℕ, zero, suc, _+_, _-_, _^_, _≤_, _<_}
+use native.Mathlib.Nat.{zero-add, eq-or-lt-of-le, le-of-suc-le-suc}
+use native.Mathlib.Numerals.{add-one}
+use native.Mathlib.Omega.{arith}
+use lib.Dec.{ltb, eqb}
+use lib.ListN.{length, getD, replicate, length-append, length-replicate, List·getD-append}
+use lib.Seq.{getD-at, getD-append-add}
+use borrow.Author.Tests.{lt-ltb, le-ltb, ltb-true, ltb-false, eqb-false}
+use Rattle.laws.specs.Tests.{any}
+use Rattle.laws.specs.TestLaws.{Run, run-says, any-here, any-none, none-any, or-cases, or-none-left, or-none-right, lt-or-le, true-or-false}
+use Rattle.laws.specs.Checks.{firstOf}
+use Rattle.laws.specs.CheckLaws.{chain}
+use Rattle.answer.specs.declared.Answer.the-variants.{Load, BadMemoryMap}
+use Rattle.answer.specs.Answer.{numberOf}
+use Rattle.number.specs.NumberLaws.{Bytes, bytes-drop, number-bound}
+use Rattle.memory_map.specs.declared.Pair.{Pair}
+use Rattle.memory_map.specs.Pairs.{maxBytes, maxPairs, minSize, baseAt, lengthAt, kindAt, sizeAt, nextAt, pairAt, begins, pairCount, small, past, badMap, mapChecks, noPair, pairOf, pairsOf, listed, mapOf, noMap, parsed}
+
+-- the first n pairs keep their rules: none is too small, and none runs past the end
+pub record Whole (m : List ℕ) (n : ℕ) : Type 0 where
+  pub large : (i : ℕ) → i < n → minSize ≤ sizeAt m (pairAt m i)
+  pub within : (i : ℕ) → i < n → pairAt m (suc i) ≤ length m
+
+-- what a map keeps that is not refused
+pub record GoodMap (m : List ℕ) : Type 0 where
+  pub some : 1 ≤ length m
+  pub short : length m ≤ maxBytes
+  pub few : pairCount m ≤ maxPairs
+  pub whole : Whole m (pairCount m)
+
+pub whole-zero : (m : List ℕ) → Whole m 0
+whole-zero m = record { large = λ i l. absurd (omega arith); within = λ i l. absurd (omega arith) }
+
+pub length-pairsOf : (m : List ℕ) (n : ℕ) → length (pairsOf m n) ≡ n
+unfolding pairsOf
+length-pairsOf m zero = refl
+length-pairsOf m (suc n) = length-append (pairsOf m n) (pairOf m (pairAt m n) ∷ []) ∙ omega (arith, length-pairsOf m n)
+
+module _ (m : List ℕ) where
+  -- a pair begins past the one before it
+  pub pair-on : (i : ℕ) → pairAt m i < pairAt m (suc i)
+  unfolding pairAt nextAt
+  pair-on i = omega arith
+
+  index-low : (i : ℕ) → i ≤ pairAt m i
+  unfolding pairAt
+  index-low zero = omega arith
+  index-low (suc i) = omega (arith, index-low i, pair-on i)
+
+  pub begins-here : (i : ℕ) → pairAt m i < length m → begins m i ≡ true
+  unfolding begins
+  begins-here i l = lt-ltb _ _ l
+
+  pub begins-not : (i : ℕ) → length m ≤ pairAt m i → begins m i ≡ false
+  unfolding begins
+  begins-not i l = le-ltb _ _ l
+
+  begins-is : (i : ℕ) → begins m i ≡ true → pairAt m i < length m
+  unfolding begins
+  begins-is i t = ltb-true _ _ t
+
+  counted : Run (begins m) 0 (length m) (pairCount m)
+  unfolding pairCount
+  counted = run-says (begins m) 0 (length m)
+
+  -- a pair counted begins before the end
+  pub count-begins : (i : ℕ) → i < pairCount m → pairAt m i < length m
+  count-begins i l = begins-is i (counted .passed i (omega arith) (omega arith))
+
+  -- no pair begins past the last
+  pub count-end : length m ≤ pairAt m (pairCount m)
+  count-end =
+      ⊎-elim
+      (λ (l : pairCount m < length m).
+      ⊎-elim
+      (λ (u : pairAt m (pairCount m) < length m).
+      absurd (false≢true (sym (rw zero-add at (counted .next l)) ∙ begins-here (pairCount m) u)))
+      (λ u. u)
+      (lt-or-le (pairAt m (pairCount m)) (length m)))
+      (λ u. omega (arith, index-low (pairCount m)))
+      (lt-or-le (pairCount m) (length m))
+
+  -- a pair that is not broken is large enough and ends within the map
+  pub unbroken : (at : ℕ) → small m at || past m at ≡ false → (minSize ≤ sizeAt m at) × (nextAt m at ≤ length m)
+  unfolding small past
+  unbroken at t = (ltb-false _ _ (or-none-left (small m at) (past m at) t), ltb-false _ _ (or-none-right (small m at) (past m at) t))
+
+  module _ (n : ℕ) (w : Whole m n) where
+    -- one pair more
+    pub whole-more : small m (pairAt m n) || past m (pairAt m n) ≡ false → Whole m (n + 1)
+    unfolding pairAt
+    whole-more t =
+        let u = unbroken (pairAt m n) t in
+        record {
+          large = λ i l. ⊎-elim (λ (q : i ≡ n). rw q (u .0)) (w .large i) (eq-or-lt-of-le (le-of-suc-le-suc (rw add-one at l)));
+          within = λ i l. ⊎-elim (λ (q : i ≡ n). rw q (u .1)) (w .within i) (eq-or-lt-of-le (le-of-suc-le-suc (rw add-one at l)));
+        }
+
+    -- whole pairs count
+    pub whole-count : n ≤ pairCount m
+    whole-count = ⊎-elim (λ l. absurd (omega (arith, w .within _ l, pair-on (pairCount m), count-end))) (λ l. l) (lt-or-le (pairCount m) n)
+
+    -- a pair that begins behind them counts too
+    pub whole-next : pairAt m n < length m → n < pairCount m
+    whole-next l = ⊎-elim (λ u. u) (λ (u : pairCount m ≤ n). let e : pairCount m ≡ n = omega (arith, whole-count) in absurd (omega (arith, ap (pairAt m) e, count-end))) (lt-or-le n (pairCount m))
+
+    -- with nothing behind them, they are all
+    pub whole-all : length m ≤ pairAt m n → pairCount m ≡ n
+    whole-all l = ⊎-elim (λ u. absurd (omega (arith, count-begins n u))) (λ u. omega (arith, whole-count)) (lt-or-le n (pairCount m))
+
+    -- what refuses a map
+    pub broken-bad : pairAt m n < length m → small m (pairAt m n) || past m (pairAt m n) ≡ true → badMap m ≡ true
+    unfolding badMap
+    broken-bad l t =
+        let k = whole-next l in
+        ⊎-elim
+        (λ (q : small m (pairAt m n) ≡ true). let h = any-here (λ i. small m (pairAt m i)) (pairCount m) n k q in search chain depth 20)
+        (λ (q : past m (pairAt m n) ≡ true). let h = any-here (λ i. past m (pairAt m i)) (pairCount m) n k q in search chain depth 20)
+        (or-cases (small m (pairAt m n)) (past m (pairAt m n)) t)
+
+  pub empty-bad : length m ≡ 0 → badMap m ≡ true
+  unfolding badMap
+  empty-bad e = search chain depth 20
+
+  pub long-bad : maxBytes < length m → badMap m ≡ true
+  unfolding badMap
+  long-bad l = search chain depth 20
+
+  pub many-bad : Whole m maxPairs → pairAt m maxPairs < length m → badMap m ≡ true
+  unfolding badMap
+  many-bad w l = let h = lt-ltb _ _ (whole-next maxPairs w l) in search chain depth 20
+
+  -- a map is not refused exactly where it keeps all its rules
+  pub map-good : GoodMap m → badMap m ≡ false
+  unfolding badMap small past pairAt
+  map-good g =
+      let a : length m ≡ 0 → ⊥ = λ e. omega (arith, g .some) in
+      let b = le-ltb maxBytes (length m) (g .short) in
+      let c = le-ltb maxPairs (pairCount m) (g .few) in
+      let d = any-none (λ i. small m (pairAt m i)) (pairCount m) (λ i l. le-ltb _ _ (g .whole .large i l)) in
+      let e = any-none (λ i. past m (pairAt m i)) (pairCount m) (λ i l. le-ltb _ _ (g .whole .within i l)) in
+      search chain depth 20
+
+  pub good-map : badMap m ≡ false → GoodMap m
+  unfolding badMap small past pairAt
+  good-map t =
+      let a = eqb (length m) 0 in
+      let b = ltb maxBytes (length m) in
+      let c = ltb maxPairs (pairCount m) in
+      let d = any (λ i. small m (pairAt m i)) (pairCount m) in
+      let e = any (λ i. past m (pairAt m i)) (pairCount m) in
+      let t2 = or-none-left (a || b || c || d) e t in
+      let t1 = or-none-left (a || b || c) d t2 in
+      let t0 = or-none-left (a || b) c t1 in
+      let z : length m ≡ 0 → ⊥ = eqb-false (length m) 0 (or-none-left a b t0) in
+      record {
+        some = omega arith;
+        short = ltb-false _ _ (or-none-right a b t0);
+        few = ltb-false _ _ (or-none-right (a || b) c t1);
+        whole = record {
+          large = λ i l. ltb-false _ _ (none-any (λ i. small m (pairAt m i)) (pairCount m) (or-none-right (a || b || c) d t2) i l);
+          within = λ i l. ltb-false _ _ (none-any (λ i. past m (pairAt m i)) (pairCount m) (or-none-right (a || b || c || d) e t) i l);
+        };
+      }
+
+  -- what reading a map answers
+  pub parsed-bad : badMap m ≡ true → record { answer = BadMemoryMap; map = noMap } ≡ parsed m
+  unfolding parsed mapChecks firstOf
+  parsed-bad t = rw t refl
+
+  pub parsed-good : badMap m ≡ false → record { answer = Load; map = mapOf m } ≡ parsed m
+  unfolding parsed mapChecks firstOf
+  parsed-good t = rw t refl
+
+  -- a map that is not refused by the order of checks is good
+  pub load-good : firstOf (mapChecks m) Load ≡ Load → badMap m ≡ false
+  unfolding mapChecks firstOf
+  load-good e =
+      ⊎-elim
+      (λ (t : badMap m ≡ true). let z : _≡_ {A = ℕ} 5 0 = ap numberOf (rw t at e) in absurd (omega arith))
+      (λ t. t)
+      (true-or-false (badMap m))
+
+  -- an accepted map has a pair, and its pairs fill it
+  pub good-some : badMap m ≡ false → 1 ≤ pairCount m
+  unfolding pairAt
+  good-some t =
+      let g = good-map t in
+      ⊎-elim (λ u. u) (λ (u : pairCount m ≤ 0). let e : pairCount m ≡ 0 = omega arith in absurd (omega (arith, g .some, ap (pairAt m) e, count-end))) (lt-or-le 0 (pairCount m))
+
+  pub good-fills : badMap m ≡ false → pairAt m (pairCount m) ≡ length m
+  good-fills t =
+      let s = good-some t in
+      let e : suc (pairCount m - 1) ≡ pairCount m = omega arith in
+      let h : pairAt m (pairCount m) ≤ length m = rw e at (good-map t .whole .within (pairCount m - 1) (omega arith)) in
+      omega (arith, count-end)
+
+no-pairs : (k i : ℕ) → getD (replicate k noPair) i noPair ≡ noPair
+no-pairs zero i = refl
+no-pairs (suc k) zero = refl
+no-pairs (suc k) (suc i) = no-pairs k i
+
+pairs-at : (m : List ℕ) (n i : ℕ) → i < n → getD (pairsOf m n) i noPair ≡ pairOf m (pairAt m i)
+unfolding pairsOf
+pairs-at m zero i l = absurd (omega arith)
+pairs-at m (suc n) i l =
+    ⊎-elim
+    (λ (q : i ≡ n). rw q (getD-at (pairsOf m n) (pairOf m (pairAt m n)) [] noPair n (length-pairsOf m n)))
+    (λ (u : i < n). List·getD-append (pairsOf m n) (pairOf m (pairAt m n) ∷ []) noPair i (omega (arith, length-pairsOf m n)) ∙ pairs-at m n i u)
+    (eq-or-lt-of-le (le-of-suc-le-suc l))
+
+-- the entries of a map of n pairs
+module _ (m : List ℕ) (n : ℕ) where
+  -- the pair of an index stands where the steps before it lead
+  pub listed-at : (i : ℕ) → i < n → getD (listed m n .pairs) i noPair ≡ pairOf m (pairAt m i)
+  unfolding listed
+  listed-at i l =
+      List·getD-append (pairsOf m n) (replicate (maxPairs - n) noPair) noPair i (omega (arith, length-pairsOf m n)) ∙ pairs-at m n i l
+
+  -- past the last the entries are zero
+  pub listed-past : (i : ℕ) → n ≤ i → getD (listed m n .pairs) i noPair ≡ noPair
+  unfolding listed
+  listed-past i l =
+      let e : i ≡ length (pairsOf m n) + (i - n) = omega (arith, length-pairsOf m n) in
+      rw (e, getD-append-add) (no-pairs (maxPairs - n) (i - n))
+
+  pub length-listed : n ≤ maxPairs → length (listed m n .pairs) ≡ maxPairs
+  unfolding listed
+  length-listed l = simp (length-append, length-pairsOf, length-replicate) (omega arith)
+
+-- the ranges of a pair's fields
+pub record PairFits (p : Pair) : Type 0 where
+  pub base : p .base < 2 ^ 64
+  pub length : p .length < 2 ^ 64
+  pub kind : p .kind < 2 ^ 32
+
+pub pair-fits : (m : List ℕ) → Bytes m → (at : ℕ) → PairFits (pairOf m at)
+unfolding pairOf
+pair-fits m b at = record {
+  base = number-bound 8 _ (bytes-drop (at + baseAt) m b);
+  length = number-bound 8 _ (bytes-drop (at + lengthAt) m b);
+  kind = number-bound 4 _ (bytes-drop (at + kindAt) m b);
+}
+
+pub listed-fits : (m : List ℕ) → Bytes m → (n i : ℕ) → PairFits (getD (listed m n .pairs) i noPair)
+listed-fits m b n i =
+    ⊎-elim
+    (λ (l : i < n). rw (listed-at m n i l) (pair-fits m b (pairAt m i)))
+    (λ (l : n ≤ i). rw (listed-past m n i l) (record { base = omega arith; length = omega arith; kind = omega arith }))
+    (lt-or-le i n)
+
+-- what reading a map gives, refused or not
+module _ (m : List ℕ) where
+  pub parsed-count : parsed m .map .count ≤ maxPairs
+  unfolding parsed listed
+  parsed-count = ⊎-elim (λ (t : badMap m ≡ true). rw t (omega arith)) (λ (t : badMap m ≡ false). rw t (good-map m t .few)) (true-or-false (badMap m))
+
+  pub parsed-length : length (parsed m .map .pairs) ≡ maxPairs
+  unfolding parsed
+  parsed-length =
+      ⊎-elim (λ (t : badMap m ≡ true). rw t refl) (λ (t : badMap m ≡ false). rw t (length-listed m (pairCount m) (good-map m t .few))) (true-or-false (badMap m))
+
+  pub parsed-fits : Bytes m → (i : ℕ) → PairFits (getD (parsed m .map .pairs) i noPair)
+  unfolding parsed
+  parsed-fits b i =
+      ⊎-elim
+      (λ (t : badMap m ≡ true). rw (t, no-pairs maxPairs i) (record { base = omega arith; length = omega arith; kind = omega arith }))
+      (λ (t : badMap m ≡ false). rw t (listed-fits m b (pairCount m) i))
+      (true-or-false (badMap m))
