@@ -1,0 +1,19 @@
+-- `board::open_edge` meets its contract: the window's edge bounds the search for one of a pair, as in `openEdge`.
+-- Assumes nothing.
+use borrow.Author.Needs.{needs}
+use Rattle.board.specs.OpenEdge.{openEdge}
+use Rattle.board.proofs.open_edge.Statement.{statement}
+use Rattle.board.proofs.open_edge.Tie as tie
+
+nearer-requires : tie.Need-nearer-requires
+nearer-requires c κs = search needs
+
+map-edge-requires : tie.Need-map-edge-requires
+map-edge-requires c κs = search needs
+
+returns : tie.Need-returns
+unfolding openEdge
+returns c = rw (← c .before .nearer .ensures) (c .map-edge .ensures)
+
+pub open-edge-spec : {M : Type 1} → statement M
+open-edge-spec = tie.close (tie.spec nearer-requires map-edge-requires returns)

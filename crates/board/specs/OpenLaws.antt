@@ -1,0 +1,47 @@
+-- Open addresses in propositions.
+--     Open, open-is    usable and inside the window
+--     open-below       an open address is below 2^32
+--     open-end         from the window's end on no address is open
+--     all-open-is      every address of a span is open
+-- Assumes nothing.
+use mathlib.Core.Path.{_≡_}
+use mathlib.Core.Bool.{Bool, true, false, and-false}
+use mathlib.Core.Logic.{_↔_}
+use Prim.Native.Nat.{ℕ, _-_, _≤_, _<_}
+use native.Mathlib.Omega.{arith}
+use borrow.Author.Tests.{le-ltb}
+use Rattle.laws.specs.Tests.{allFrom}
+use Rattle.laws.specs.TestLaws.{and-left, and-right, all-intro, all-elim}
+use Rattle.address.specs.Address.{inside}
+use Rattle.edge.specs.InsideLaws.{inside-is}
+use Rattle.memory_map.specs.Usable.{limit, usableAt}
+use Rattle.memory_map.specs.UsableLaws.{Usable, usable-is}
+use Rattle.board.specs.declared.Board.{Board}
+use Rattle.board.specs.Open.{openAt}
+
+pub record Open (b : Board) (a : ℕ) : Type 0 where
+  pub usable : Usable (b .map) a
+  pub window : (b .window .start .0 ≤ a) × (a < b .window .end .0)
+
+module _ (b : Board) where
+  pub open-is : (a : ℕ) → (openAt b a ≡ true) ↔ Open b a
+  unfolding openAt
+  open-is a =
+      let U : Bool = usableAt (b .map) a in
+      let W : Bool = inside (b .window .start .0) (b .window .end .0) a in (
+        λ e. record { usable = usable-is (b .map) a .0 (and-left U W e); window = inside-is _ _ a .0 (and-right U W e) },
+        λ h. rw (usable-is (b .map) a .1 (h .usable), inside-is _ _ a .1 (h .window)),
+      )
+
+  pub open-below : (a : ℕ) → openAt b a ≡ true → a < limit
+  open-below a e = open-is a .0 e .usable .below
+
+  pub open-end : (a : ℕ) → b .window .end .0 ≤ a → openAt b a ≡ false
+  unfolding openAt inside
+  open-end a l = rw (le-ltb a (b .window .end .0) l, and-false, and-false)
+
+  pub all-open-is : (start end : ℕ) → (allFrom (openAt b) start (end - start) ≡ true) ↔ ((a : ℕ) → start ≤ a → a < end → openAt b a ≡ true)
+  all-open-is start end = (
+    λ e a l u. all-elim (openAt b) start (end - start) e a l (omega arith),
+    λ h. all-intro (openAt b) start (end - start) (λ a l u. h a l (omega arith)),
+  )

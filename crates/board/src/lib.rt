@@ -1,0 +1,53 @@
+// The memory that a load may write: what the memory map makes usable, inside the window.
+use address::PhysAddr;
+use address::Span;
+use memory_map::MemMap;
+ghost use mathlib.Core.Path.{_≡_};
+ghost use Prim.Native.Nat.{_-_, _≤_};
+ghost use Rattle.laws.specs.Tests.{allFrom};
+ghost use Rattle.memory_map.specs.Usable.{maxPairs};
+ghost use Rattle.board.specs.Open.{openAt, Checked};
+ghost use Rattle.board.specs.OpenEdge.{openEdge};
+
+pub mod window;
+
+// A memory map, and the window that stands for physical memory.
+pub struct Board {
+    pub map: MemMap,
+    pub window: Span,
+}
+
+// Whether the address is open: usable and inside the window.
+pub fn open_at(board: Board, a: PhysAddr) -> bool
+    requires { ⌜ board .map .count ≤ maxPairs ⌝ }
+    ensures { λ r. ⌜ r ≡ openAt board (a .0) ⌝ }
+{
+    if !board.window.contains(a) {
+        return false;
+    }
+    memory_map::usable::usable_at(board.map, a)
+}
+
+// The nearest edge of the window or a pair past x, at most the window's end: up to it all addresses are open, or none is.
+pub fn open_edge(board: Board, x: PhysAddr) -> PhysAddr
+    requires { ⌜ board .map .count ≤ maxPairs ⌝ }
+    ensures { λ r. ⌜ r .0 ≡ openEdge board (x .0) ⌝ }
+{
+    let e = edge::nearer(x, board.window.end, board.window.start);
+    memory_map::usable::map_edge(board.map, x, e)
+}
+
+// Whether every address of the span is open.
+pub fn all_open(board: Board, span: Span) -> bool
+    requires { ⌜ Checked board ⌝ }
+    ensures { λ r. ⌜ r ≡ allFrom (openAt board) (span .start .0) (span .end .0 - span .start .0) ⌝ }
+{
+    let mut x = span.start;
+    while x.0 < span.end.0 {
+        if !open_at(board, x) {
+            return false;
+        }
+        x = open_edge(board, x);
+    }
+    true
+}

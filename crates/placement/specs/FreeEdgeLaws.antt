@@ -1,0 +1,42 @@
+-- Up to the nearest edge all addresses are free, or none is.
+--     taken-edge-is                 for the spans taken
+--     free-edge-is, free-edge-at    for free memory, by name and as a call hands it over
+--     free-end                      from the window's end on no address is free
+-- Assumes nothing.
+use mathlib.Core.Path.{_≡_}
+use mathlib.Core.Bool.{false}
+use Prim.Native.Nat.{ℕ, _≤_, _<_}
+use native.Mathlib.Omega.{arith}
+use Rattle.laws.specs.TestLaws.{any-same}
+use Rattle.edge.specs.EdgeLaws.{Edge, edges-are}
+use Rattle.memory_map.specs.Usable.{limit}
+use Rattle.board.specs.declared.Board.{Board}
+use Rattle.board.specs.Open.{openAt}
+use Rattle.board.specs.OpenLaws.{open-end}
+use Rattle.board.specs.OpenEdge.{openEdge}
+use Rattle.board.specs.OpenEdgeLaws.{open-edge-is}
+use Rattle.placement.specs.declared.Spans.{Spans}
+use Rattle.placement.specs.Free.{spanAt, takenBy, takenAt, freeAt}
+use Rattle.placement.specs.FreeEdge.{takenEdge, freeEdge}
+
+pub taken-edge-is : (t : Spans) (x e : ℕ) → x < e → Edge (takenAt t) x e (takenEdge t x e)
+unfolding takenAt takenBy takenEdge
+taken-edge-is t x e l =
+    let h = edges-are (λ i. spanAt t i .start .0) (λ i. spanAt t i .end .0) x e l (t .count) in
+    record { past = h .past; near = h .near; same = λ y u v. any-same _ _ (t .count) (λ i n. h .same i n y u v) }
+
+module _ (b : Board) (t : Spans) (x : ℕ) where
+  pub free-end : b .window .end .0 ≤ x → freeAt (openAt b) t x ≡ false
+  unfolding freeAt
+  free-end l = rw (open-end b x l)
+
+  module _ (l : x < b .window .end .0) (small : b .window .end .0 ≤ limit) where
+    pub free-edge-is : Edge (freeAt (openAt b) t) x (b .window .end .0) (freeEdge b t x)
+    unfolding freeAt freeEdge
+    free-edge-is =
+        let p = open-edge-is b x l small in
+        let q = taken-edge-is t x (openEdge b x) (p .past) in
+        record { past = q .past; near = omega arith; same = λ y u v. rw (p .same y u (omega arith), q .same y u v) }
+
+    pub free-edge-at : (r : ℕ) → r ≡ freeEdge b t x → Edge (freeAt (openAt b) t) x (b .window .end .0) r
+    free-edge-at r e = rw e free-edge-is

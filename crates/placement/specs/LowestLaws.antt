@@ -1,0 +1,98 @@
+-- The lowest place in propositions, over any test of open addresses that ends at 2^32.
+--     suits-is             the test of an address is that it suits
+--     place-lowest         the place is a exactly where a suits and no lower address does
+--     no-room              there is no room exactly where no address suits
+--     place-below, place-end    a place is below 2^32, and so is the item's last byte
+-- Assumes nothing.
+use mathlib.Core.Path.{_≡_, refl, sym, ap, _∙_}
+use mathlib.Core.Bool.{Bool, true, false, false≢true}
+use mathlib.Core.Logic.{⊎-elim, _↔_}
+use Prim.Native.Nat.{ℕ, _+_, _-_, _%_, _≤_, _<_}
+use native.Mathlib.Omega.{arith}
+use borrow.Author.Tests.{eq-eqb, eqb-true}
+use lib.Dec.{eqb}
+use Rattle.laws.specs.Tests.{allFrom}
+use Rattle.laws.specs.TestLaws.{true-or-false, lt-or-le, and-left, and-right, all-intro, all-elim}
+use Rattle.laws.specs.First.{Found, none, at, Lowest}
+use Rattle.laws.specs.FirstLaws.{first-at, first-none, at-lowest, none-lowest}
+use Rattle.address.specs.declared.PhysAddr.{PhysAddr}
+use Rattle.address.specs.Address.{floor, isMultiple}
+use Rattle.memory_map.specs.Usable.{limit}
+use Rattle.placement.specs.declared.Spans.{Spans}
+use Rattle.placement.specs.declared.Item.{Item}
+use Rattle.placement.specs.declared.Place.the-variants.{At, NoRoom}
+use Rattle.placement.specs.Free.{freeAt}
+use Rattle.placement.specs.FreeLaws.{Free, free-is}
+use Rattle.placement.specs.Demand.{Suits}
+use Rattle.placement.specs.Lowest.{fits, lowest, placeOf, lowestPlace}
+
+place-at : (f : Found) (a : PhysAddr) → placeOf f ≡ At a → f ≡ at (a .0)
+place-at none a e = let z : _≡_ {A = ℕ} 0 1 = cc in absurd (omega arith)
+place-at (at b) a e =
+    let q : _≡_ {A = PhysAddr} (record { 0 = b }) a = cc in
+    ap (λ (p : PhysAddr). at (p .0)) q
+
+place-none : (f : Found) → placeOf f ≡ NoRoom → f ≡ none
+place-none none e = refl
+place-none (at b) e = let z : _≡_ {A = ℕ} 0 1 = cc in absurd (omega arith)
+
+module _ (o : ℕ → Bool) (t : Spans) (q : Item) where
+  pub suits-is : (a : ℕ) → ((floor ≤ a) × (fits (freeAt o t) q a ≡ true)) ↔ Suits o t q a
+  unfolding fits isMultiple
+  suits-is a =
+      let M : Bool = eqb (a % q .boundary) 0 in
+      let F : Bool = allFrom (freeAt o t) a (q .length) in (
+        λ e.
+            let h : (y : ℕ) → a ≤ y → y < a + q .length → Free o t y = λ y l u. free-is o t y .0 (all-elim (freeAt o t) a (q .length) (and-right M F (e .1)) y l u) in
+            record {
+              low = e .0;
+              boundary = eqb-true _ _ (and-left M F (e .1));
+              opened = λ y l u. h y l u .opened;
+              apart = λ y l u. h y l u .apart;
+            },
+        λ h. (h .low, rw (eq-eqb _ _ (h .boundary)) (all-intro (freeAt o t) a (q .length) (λ y l u. free-is o t y .1 (record { opened = h .opened y l u; apart = h .apart y l u })))),
+      )
+
+  no-fit : (a : ℕ) → floor ≤ a → (fits (freeAt o t) q a ≡ false) ↔ (Suits o t q a → ⊥)
+  no-fit a l = (
+    λ e h. false≢true (sym e ∙ suits-is a .1 h .1),
+    λ h. ⊎-elim (λ e. absurd (h (suits-is a .0 (l, e)))) (λ e. e) (true-or-false (fits (freeAt o t) q a)),
+  )
+
+  found : (a : PhysAddr) → lowestPlace o t q ≡ At a → Lowest (fits (freeAt o t) q) (limit - floor) floor (at (a .0))
+  unfolding lowestPlace lowest
+  found a e = at-lowest (fits (freeAt o t) q) (limit - floor) floor (a .0) (place-at _ a e)
+
+  pub place-below : (a : PhysAddr) → lowestPlace o t q ≡ At a → a .0 < limit
+  place-below a e = omega (arith, found a e .1)
+
+  pub place-suits : (a : PhysAddr) → lowestPlace o t q ≡ At a → Suits o t q (a .0)
+  place-suits a e = suits-is (a .0) .0 (found a e .0, found a e .2)
+
+  module _ (small : (a : ℕ) → o a ≡ true → a < limit) where
+    pub place-end : (a : PhysAddr) → lowestPlace o t q ≡ At a → a .0 + q .length ≤ limit
+    place-end a e =
+        ⊎-elim
+        (λ l. omega (arith, small (a .0 + (q .length - 1)) (place-suits a e .opened (a .0 + (q .length - 1)) (omega arith) (omega arith))))
+        (λ l. omega (arith, place-below a e))
+        (lt-or-le 0 (q .length))
+
+    module _ (some : 0 < q .length) where
+      below-limit : (a : ℕ) → Suits o t q a → a < limit
+      below-limit a h = small a (h .opened a (omega arith) (omega arith))
+
+      pub place-lowest : (a : PhysAddr) → (lowestPlace o t q ≡ At a) ↔ (Suits o t q (a .0) × ((s : ℕ) → s < a .0 → Suits o t q s → ⊥))
+      unfolding lowestPlace lowest
+      place-lowest a = (
+        λ e. (place-suits a e, λ s l h. no-fit s (h .low) .0 (found a e .3 s (h .low) l) h),
+        λ h.
+            ap placeOf
+            (first-at _ _ _ (a .0) (h .0 .low) (omega (arith, below-limit (a .0) (h .0))) (suits-is (a .0) .1 (h .0) .1) (λ s l u. no-fit s l .1 (h .1 s u))),
+      )
+
+      pub no-room : (lowestPlace o t q ≡ NoRoom) ↔ ((s : ℕ) → Suits o t q s → ⊥)
+      unfolding lowestPlace lowest
+      no-room = (
+        λ e s h. no-fit s (h .low) .0 (none-lowest (fits (freeAt o t) q) (limit - floor) floor (place-none _ e) s (h .low) (omega (arith, below-limit s h))) h,
+        λ h. ap placeOf (first-none _ _ _ (λ s l u. no-fit s l .1 (h s))),
+      )

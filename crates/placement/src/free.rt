@@ -1,0 +1,60 @@
+// Free memory: open and in no span taken.
+use crate::Spans;
+use address::PhysAddr;
+use board::Board;
+ghost use mathlib.Core.Path.{_≡_};
+ghost use Prim.Native.Nat.{_≤_};
+ghost use Rattle.memory_map.specs.Usable.{maxPairs};
+ghost use Rattle.board.specs.Open.{openAt};
+ghost use Rattle.placement.specs.Free.{maxSpans, takenAt, freeAt};
+ghost use Rattle.placement.specs.FreeEdge.{takenEdge, freeEdge};
+
+// Whether the address lies in a span taken.
+pub fn taken_at(taken: Spans, a: PhysAddr) -> bool
+    requires { ⌜ taken .count ≤ maxSpans ⌝ }
+    ensures { λ r. ⌜ r ≡ takenAt taken (a .0) ⌝ }
+{
+    let mut i = 0;
+    while i < taken.count {
+        let span = taken.list[i];
+        if span.contains(a) {
+            return true;
+        }
+        i += 1;
+    }
+    false
+}
+
+// Whether the address is free.
+pub fn free_at(board: Board, taken: Spans, a: PhysAddr) -> bool
+    requires { ⌜ (board .map .count ≤ maxPairs) × (taken .count ≤ maxSpans) ⌝ }
+    ensures { λ r. ⌜ r ≡ freeAt (openAt board) taken (a .0) ⌝ }
+{
+    if taken_at(taken, a) {
+        return false;
+    }
+    board::open_at(board, a)
+}
+
+// The nearest edge of a span taken past x and before e, else e.
+pub fn taken_edge(taken: Spans, x: PhysAddr, e: PhysAddr) -> PhysAddr
+    requires { ⌜ taken .count ≤ maxSpans ⌝ }
+    ensures { λ r. ⌜ r .0 ≡ takenEdge taken (x .0) (e .0) ⌝ }
+{
+    let mut f = e;
+    let mut i = 0;
+    while i < taken.count {
+        let span = taken.list[i];
+        f = edge::span_edge(span, x, f);
+        i += 1;
+    }
+    f
+}
+
+// The nearest edge of the board or a span taken past x: up to it all addresses are free, or none is.
+pub fn free_edge(board: Board, taken: Spans, x: PhysAddr) -> PhysAddr
+    requires { ⌜ (board .map .count ≤ maxPairs) × (taken .count ≤ maxSpans) ⌝ }
+    ensures { λ r. ⌜ r .0 ≡ freeEdge board taken (x .0) ⌝ }
+{
+    taken_edge(taken, x, board::open_edge(board, x))
+}

@@ -1,0 +1,34 @@
+// The lowest place of one item.
+use crate::Item;
+use crate::Place;
+use crate::Spans;
+use crate::free;
+use address::PhysAddr;
+use board::Board;
+ghost use mathlib.Core.Path.{_≡_};
+ghost use Rattle.board.specs.Open.{openAt};
+ghost use Rattle.placement.specs.Lowest.{lowestPlace};
+ghost use Rattle.placement.specs.Ready.{Ready};
+
+// The lowest place of an item beside the spans taken, or no room where no address serves. From a candidate a, x goes from edge
+// to edge as long as it meets free addresses; past others the next candidate is the edge, rounded up.
+pub fn lowest_place(board: Board, taken: Spans, item: Item) -> Place
+    requires { ⌜ Ready board taken item ⌝ }
+    ensures { λ r. ⌜ r ≡ lowestPlace (openAt board) taken item ⌝ }
+{
+    let mut a = PhysAddr::lowest(item.boundary);
+    let mut x = a;
+    while x.0 - a.0 < item.length {
+        if board.window.end.0 <= x.0 {
+            return Place::NoRoom;
+        }
+        let e = free::free_edge(board, taken, x);
+        if free::free_at(board, taken, x) {
+            x = e;
+        } else {
+            a = e.round_up(item.boundary);
+            x = a;
+        }
+    }
+    Place::At(a)
+}
