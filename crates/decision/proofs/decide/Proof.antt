@@ -1,0 +1,142 @@
+-- `decision::decide` meets its contract: a refusal of checks 1 to 14, or the decision on memory.
+-- Assumes nothing.
+use mathlib.Core.Path.{_≡_, refl, sym, ap, _∙_}
+use mathlib.Core.Bool.{true, false}
+use mathlib.Core.List.{List}
+use Prim.Native.Nat.{ℕ, _+_, _≤_, _<_, _^_}
+use native.Mathlib.Omega.{arith}
+use borrow.Author.Tests.{not-true, not-false}
+use lib.ListN.{length}
+use Rattle.laws.specs.Checks.{firstOf}
+use Rattle.address.specs.declared.Span.{Span}
+use Rattle.answer.specs.Answer.{isLoad}
+use Rattle.answer.specs.declared.Answer.the-variants.{Load}
+use Rattle.submission.specs.declared.Layout.{Layout}
+use Rattle.image.specs.declared.Kernel.{Kernel}
+use Rattle.memory_map.specs.declared.MemMap.{MemMap}
+use Rattle.memory_map.specs.Pairs.{mapOf}
+use Rattle.information.specs.Information.{stringLengths, blockLength}
+use Rattle.decision.specs.Lent.{Lent, layoutIn, kernelIn, lineIn, boardIn, blockIn}
+use Rattle.decision.specs.Decided.{memoryDecision}
+use Rattle.decision.specs.PlacedLaws.{Prepared}
+use Rattle.decision.specs.DecisionLaws.{lentChecks, passed, prepared, block-small, verdict-is, layout-known, map-known, kernel-known, decided-refused, board-is, block-is, prepared-is, decision-is}
+use borrow.Author.Needs.{needs}
+use Rattle.decision.proofs.decide.Statement.{statement}
+use Rattle.decision.proofs.decide.Tie as tie
+
+parse-requires : tie.Need-parse-requires
+parse-requires c κs = search needs
+
+parse-requires-2 : tie.Need-parse-requires-2
+parse-requires-2 c κs = search needs
+
+bytes-of-requires : tie.Need-bytes-of-requires
+bytes-of-requires c κs = search needs
+
+judge-requires : tie.Need-judge-requires
+judge-requires c κs = search needs
+
+check-operator-requires : tie.Need-check-operator-requires
+check-operator-requires c κs = search needs
+
+check-window-requires : tie.Need-check-window-requires
+check-window-requires c κs = search needs
+
+first-refusal-requires : tie.Need-first-refusal-requires
+first-refusal-requires c κs = search needs
+
+is-load-requires : tie.Need-is-load-requires
+is-load-requires c κs = search needs
+
+refuse-requires : tie.Need-refuse-requires
+refuse-requires c κs = search needs
+
+-- what the stages gave, by name
+module _ (c : tie.After-first-refusal) where
+  abbrev start : tie.Start
+  start = c .before .before .before .before .before .before .before .before .before .before .before
+
+  abbrev x : Lent
+  x = record { submission = start .args .submission .now; operator = start .args .operator .now; map = start .args .map .now; first = start .args .first; size = start .args .size }
+
+  verdict : c .first-refusal .result ≡ firstOf (lentChecks x) Load
+  verdict = verdict-is x _ _ _ _ (c .before .before .before .before .before .before .before .parse .ensures) (c .before .before .before .before .before .parse2 .ensures) (c .before .before .before .before .bytes-of .ensures) (c .before .before .before .judge .ensures) _ _ _ (c .before .before .check-operator .ensures) (c .before .check-window .ensures) (c .first-refusal .ensures)
+
+  module _ (h : isLoad (c .first-refusal .result) ≡ true) where
+    loads : isLoad (firstOf (lentChecks x) Load) ≡ true
+    loads = ap isLoad (sym verdict) ∙ h
+
+    layout-is : c .before .before .before .before .before .before .before .parse .result .layout ≡ layoutIn x
+    layout-is = layout-known x _ _ _ _ (c .before .before .before .before .before .before .before .parse .ensures) (c .before .before .before .before .before .parse2 .ensures) (c .before .before .before .before .bytes-of .ensures) (c .before .before .before .judge .ensures) loads
+
+    map-is : c .before .before .before .before .before .parse2 .result .map ≡ mapOf (x .map)
+    map-is = map-known x _ _ _ _ (c .before .before .before .before .before .before .before .parse .ensures) (c .before .before .before .before .before .parse2 .ensures) (c .before .before .before .before .bytes-of .ensures) (c .before .before .before .judge .ensures) loads
+
+    kernel-is : c .before .before .before .judge .result .kernel ≡ kernelIn x
+    kernel-is = kernel-known x _ _ _ _ (c .before .before .before .before .before .before .before .parse .ensures) (c .before .before .before .before .before .parse2 .ensures) (c .before .before .before .before .bytes-of .ensures) (c .before .before .before .judge .ensures) loads
+
+-- where the verdict is a load
+passes : (c : tie.Else1) → isLoad (c .before .before .first-refusal .result) ≡ true
+passes c = sym (c .before .is-load .ensures) ∙ not-false _ (c .if1 .left)
+
+returns : tie.Need-returns
+returns c =
+    let d = c .before .before .before in
+    c .refuse .ensures ∙ decided-refused (x d) _ (verdict d) (sym (c .before .before .is-load .ensures) ∙ not-true _ (c .before .if1 .taken))
+
+command-line-requires : tie.Need-command-line-requires
+command-line-requires c κs = search needs
+
+block-length-requires : tie.Need-block-length-requires
+block-length-requires c κs =
+    let d = c .before .before .before in
+    let h = passes (c .before) in
+    let p = passed (x d) (loads d h) in
+    rw (layout-is d h, c .command-line .ensures) (prepared (x d) p .modules, omega (arith, block-small (x d) p .1))
+
+window-span-requires : tie.Need-window-span-requires
+window-span-requires c κs =
+    let d = c .before .before .before .before .before in
+    passed (x d) (loads d (passes (c .before .before .before))) .window
+
+-- what the decision on memory is called with
+module _ (c : tie.After-kernel) where
+  abbrev d : tie.After-first-refusal
+  d = c .before .before .before .before .before .before .before
+
+  loaded : isLoad (d .first-refusal .result) ≡ true
+  loaded = passes (c .before .before .before .before .before)
+
+  block : c .before .before .before .block-length .result ≡ blockIn (x d)
+  block = block-is (x d) _ _ _ (layout-is d loaded) (c .before .before .before .before .command-line .ensures) (c .before .before .before .block-length .ensures)
+
+  board : record { map = d .before .before .before .before .before .parse2 .result .map; window = c .before .window-span .result } ≡ boardIn (x d)
+  board = board-is (x d) _ _ (map-is d loaded) (c .before .window-span .ensures)
+
+decide-memory-requires : tie.Need-decide-memory-requires
+decide-memory-requires c κs = prepared-is (x (d c)) _ _ _ _ (board c) (kernel-is (d c) (loaded c)) (layout-is (d c) (loaded c)) (block c) (passed (x (d c)) (loads (d c) (loaded c)))
+
+returns-2 : tie.Need-returns-2
+returns-2 c =
+    let k = c .before in
+    c .decide-memory .ensures ∙ decision-is (x (d k)) _ _ _ _ (board k) (kernel-is (d k) (loaded k)) (layout-is (d k) (loaded k)) (block k) (loads (d k) (loaded k))
+
+pub decide-spec : {M : Type 1} → statement M
+decide-spec =
+    tie.close
+    (tie.spec
+    parse-requires
+    parse-requires-2
+    bytes-of-requires
+    judge-requires
+    check-operator-requires
+    check-window-requires
+    first-refusal-requires
+    is-load-requires
+    refuse-requires
+    returns
+    command-line-requires
+    block-length-requires
+    window-span-requires
+    decide-memory-requires
+    returns-2)

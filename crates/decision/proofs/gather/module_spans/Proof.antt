@@ -1,0 +1,72 @@
+-- `decision::gather::module_spans` meets its contract: the loop fills a table.
+-- Assumes nothing.
+use mathlib.Core.Path.{_≡_, sym, ap, _∙_}
+use Prim.Native.Nat.{ℕ, _+_, _-_, _≤_}
+use native.Mathlib.Omega.{arith}
+use Rattle.laws.specs.Table.{table}
+use Rattle.laws.specs.TableLaws.{table-none, table-more}
+use Rattle.submission.specs.Format.{moduleLimit}
+use Rattle.placement.specs.Free.{spanAt}
+use Rattle.decision.specs.Gather.{noSpan, moduleSpans}
+use borrow.Author.Needs.{needs}
+use Rattle.decision.proofs.gather.module_spans.Statement.{statement}
+use Rattle.decision.proofs.gather.module_spans.Tie as tie
+use Rattle.decision.proofs.gather.module_spans.Reads as reads
+use Rattle.decision.proofs.gather.module_spans.Lts as lts
+
+abbrev Inv-loop : tie.InvT-loop
+Inv-loop from count spans list₀ i₀ list i = (i ≤ count) × (list ≡ table (λ j. spanAt spans (from + j)) i moduleLimit noSpan)
+
+abbrev μ-loop : tie.MeasureT-loop
+μ-loop from count spans list₀ i₀ list i = count - i
+
+loop-holds : tie.Need-loop-holds Inv-loop μ-loop
+loop-holds c = (search needs, table-none _ moduleLimit noSpan)
+
+add-list : tie.Need-add-list Inv-loop μ-loop
+add-list c = search needs
+
+mul-list : tie.Need-mul-list Inv-loop μ-loop
+mul-list c = search needs
+
+element-copy-out-list : tie.Need-element-copy-out-list Inv-loop μ-loop
+element-copy-out-list c = search needs
+
+mul-list-2 : tie.Need-mul-list-2 Inv-loop μ-loop
+mul-list-2 c = search needs
+
+array-set-from-list : tie.Need-array-set-from-list Inv-loop μ-loop
+array-set-from-list c = search needs
+
+add-i : tie.Need-add-i Inv-loop μ-loop
+add-i c = search needs
+
+loop-less : tie.Need-loop-less Inv-loop μ-loop
+loop-less c = search needs
+
+loop-again : tie.Need-loop-again Inv-loop μ-loop
+loop-again c =
+    let at-loop = c .before .before in
+    let start = at-loop .before .args in
+    (search needs, cc (table-more (λ j. spanAt (start .t1) (start .from + j)) moduleLimit noSpan (at-loop .loop .i) (search needs)))
+
+returns : tie.Need-returns Inv-loop μ-loop
+unfolding moduleSpans
+returns c = let e : c .before .loop .i ≡ c .before .before .args .count = omega arith in cc
+
+pub module-spans-spec : {M : Type 1} → statement M
+module-spans-spec =
+    tie.close
+    (tie.spec
+    Inv-loop
+    μ-loop
+    loop-holds
+    add-list
+    mul-list
+    element-copy-out-list
+    mul-list-2
+    array-set-from-list
+    add-i
+    loop-less
+    loop-again
+    returns)

@@ -1,0 +1,19 @@
+-- `decision::place::refuse` meets its contract: the plan made is all zeros.
+-- Assumes nothing.
+use Rattle.decision.specs.Decided.{noPlan}
+use borrow.Author.Needs.{needs}
+use Rattle.decision.proofs.place.refuse.Statement.{statement}
+use Rattle.decision.proofs.place.refuse.Tie as tie
+use Rattle.decision.proofs.place.refuse.Reads as reads
+use Rattle.decision.proofs.place.refuse.Lts as lts
+use Rattle.image.proofs.no_kernel.Reads as no-kernel-reads
+
+no-kernel-requires : tie.Need-no-kernel-requires
+no-kernel-requires c κs = search needs
+
+returns : tie.Need-returns
+unfolding noPlan
+returns c = rw (c .no-kernel .ensures)
+
+pub refuse-spec : {M : Type 1} → statement M
+refuse-spec = tie.close (tie.spec no-kernel-requires returns)

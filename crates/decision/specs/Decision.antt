@@ -1,0 +1,44 @@
+-- The decision on what is lent: the order of checks, 1 to 17, and the plan.                    rules: ANSWERS, PLAN
+--     checks       all checks in their order
+--     answerOf     the answer
+--     placedIn     where the modules and the information block go
+--     planIn       the plan of a load
+--     decisionOf   the answer with its plan, all zeros in a refusal
+-- Assumes nothing.
+use mathlib.Core.List.{List, _++_}
+use Rattle.laws.specs.Checks.{Check, firstOf}
+use Rattle.answer.specs.declared.Answer.{Answer}
+use Rattle.answer.specs.declared.Answer.the-variants.{Load}
+use Rattle.submission.specs.Rules.{submissionChecks}
+use Rattle.submission.specs.CommandLine.{operatorChecks}
+use Rattle.board.specs.Window.{windowChecks}
+use Rattle.memory_map.specs.Pairs.{mapChecks}
+use Rattle.image.specs.Judged.{imageChecks}
+use Rattle.placement.specs.declared.Placed.{Placed}
+use Rattle.decision.specs.declared.Plan.{Plan}
+use Rattle.decision.specs.declared.Decision.{Decision}
+use Rattle.decision.specs.Lent.{Lent, layoutIn, imageIn, kernelIn, boardIn, blockIn}
+use Rattle.decision.specs.Decided.{kernelChecks, roomChecks, placedBy, planOf, decidedBy}
+
+abbrev pub placedIn : Lent → Placed
+placedIn x = placedBy (boardIn x) (kernelIn x) (layoutIn x) (blockIn x)
+
+-- 1 and 2, 3, 4, 5, 6 to 14, 15, 16 and 17
+unfoldable pub checks : Lent → List (Check Answer)
+checks x =
+    submissionChecks (x .submission)
+    ++ operatorChecks (x .operator)
+    ++ windowChecks (x .first) (x .size)
+    ++ mapChecks (x .map)
+    ++ imageChecks (imageIn x)
+    ++ kernelChecks (boardIn x) (kernelIn x)
+    ++ roomChecks (placedIn x .done) (layoutIn x .count)
+
+abbrev pub answerOf : Lent → Answer
+answerOf x = firstOf (checks x) Load
+
+abbrev pub planIn : Lent → Plan
+planIn x = planOf (kernelIn x) (placedIn x .spans) (layoutIn x .count)
+
+unfoldable pub decisionOf : Lent → Decision
+decisionOf x = decidedBy (checks x) (planIn x)

@@ -1,0 +1,237 @@
+-- What the checks before 15 show, and how the decision goes on from them.
+--     lentChecks, checks-split    checks 1 to 14, and those on memory behind them
+--     answer-is                   the first refusal of the stages is the answer of checks 1 to 14
+--     Passed, passed              what is known where none of them applies
+--     prepared, block-small       so that the items can be placed
+--     verdict-is, layout-known, map-known, kernel-known    what the stages read
+--     decided-refused, decided-on                          a refusal of checks 1 to 14, and the decision on memory
+--     board-is, block-is, prepared-is, decision-is         the same as the calls hand it over
+-- Assumes nothing.
+use mathlib.Core.Path.{_≡_, refl, sym, ap, _∙_}
+use mathlib.Core.Bool.{Bool, true, false}
+use mathlib.Core.List.{List, _++_, append-assoc}
+use mathlib.Core.Logic.{⊎-elim}
+use Prim.Native.Nat.{ℕ, zero, suc, _+_, _*_, _^_, _≤_, _<_}
+use native.Mathlib.Omega.{arith}
+use borrow.Author.Tests.{ltb-false, not-true}
+use lib.ListN.{length, getD}
+use Rattle.laws.specs.Checks.{Check, firstOf, passes}
+use Rattle.laws.specs.CheckLaws.{passes-on}
+use Rattle.laws.specs.TestLaws.{and-left}
+use Rattle.address.specs.Address.{top}
+use Rattle.answer.specs.Answer.{isLoad, orElse}
+use Rattle.answer.specs.Order.{refuses, chain-append, or-else-same, or-else-load, passes-is}
+use Rattle.answer.specs.declared.Answer.{Answer}
+use Rattle.answer.specs.declared.Answer.the-variants.{Load}
+use Rattle.submission.specs.declared.Layout.{Layout}
+use Rattle.submission.specs.declared.Module.{Module}
+use Rattle.submission.specs.declared.Parsed.{Parsed}
+use Rattle.submission.specs.Format.{moduleCount, moduleLimit, noModule, dataLength, stringLength, layoutOf, bytesOf}
+use Rattle.submission.specs.FormatLaws.{layout-count, module-at}
+use Rattle.submission.specs.Rules.{submissionChecks, lineLimit, stringLimit, parsed}
+use Rattle.submission.specs.RuleLaws.{Accepted, accepted, parsed-layout}
+use Rattle.submission.specs.CommandLine.{operatorChecks}
+use Rattle.submission.specs.CommandLineLaws.{line-length}
+use Rattle.address.specs.declared.Span.{Span}
+use Rattle.memory_map.specs.declared.MemMap.{MemMap}
+use Rattle.image.specs.declared.Kernel.{Kernel}
+use Rattle.board.specs.declared.Board.{Board}
+use Rattle.board.specs.Window.{windowChecks, windowSpan}
+use Rattle.board.specs.WindowLaws.{window-fits}
+use Rattle.memory_map.specs.declared.parse.Parsed.{Parsed as ParsedMap}
+use Rattle.memory_map.specs.Pairs.{mapChecks, badMap, listed, mapOf}
+use Rattle.memory_map.specs.Pairs.{parsed as parsedMap}
+use Rattle.memory_map.specs.PairsLaws.{good-map, load-good, parsed-good}
+use Rattle.image.specs.declared.Judged.{Judged}
+use Rattle.image.specs.Judged.{headerChecks, loadChecks, imageChecks, judged}
+use Rattle.image.specs.JudgedLaws.{judged-answer, judged-load}
+use Rattle.image.specs.JudgedLaws.{accepted as accepted-image}
+use Rattle.information.specs.Information.{stringLengths, blockLength}
+use Rattle.information.specs.WritingLaws.{block-bound}
+use Rattle.decision.specs.Lent.{Lent, layoutIn, imageIn, kernelIn, lineIn, boardIn, blockIn}
+use Rattle.decision.specs.Gather.{moduleNo}
+use Rattle.decision.specs.Decided.{noPlan, decidedBy, memoryChecks, memoryDecision}
+use Rattle.decision.specs.DecidedLaws.{stage-refuses, stage-passes}
+use Rattle.decision.specs.Decision.{checks, decisionOf}
+use Rattle.decision.specs.PlacedLaws.{Prepared}
+
+unfoldable pub lentChecks : Lent → List (Check Answer)
+lentChecks x =
+    submissionChecks (x .submission)
+    ++ operatorChecks (x .operator)
+    ++ windowChecks (x .first) (x .size)
+    ++ mapChecks (x .map)
+    ++ imageChecks (imageIn x)
+
+module _ (x : Lent) where
+  pub checks-split : checks x ≡ lentChecks x ++ memoryChecks (boardIn x) (kernelIn x) (layoutIn x) (blockIn x)
+  unfolding checks lentChecks
+  checks-split = simp append-assoc
+
+  pub lent-refuses : refuses (lentChecks x) ≡ true
+  unfolding refuses lentChecks submissionChecks operatorChecks windowChecks mapChecks headerChecks loadChecks imageChecks
+  lent-refuses = refl
+
+  image-refuses : refuses (imageChecks (imageIn x)) ≡ true
+  unfolding refuses headerChecks loadChecks imageChecks
+  image-refuses = refl
+
+  map-refuses : refuses (mapChecks (x .map)) ≡ true
+  unfolding refuses mapChecks
+  map-refuses = refl
+
+  window-refuses : refuses (windowChecks (x .first) (x .size)) ≡ true
+  unfolding refuses windowChecks
+  window-refuses = refl
+
+  operator-refuses : refuses (operatorChecks (x .operator)) ≡ true
+  unfolding refuses operatorChecks
+  operator-refuses = refl
+
+  submission-refuses : refuses (submissionChecks (x .submission)) ≡ true
+  unfolding refuses submissionChecks
+  submission-refuses = refl
+
+  lent-right :
+      lentChecks x
+      ≡ submissionChecks (x .submission) ++ (operatorChecks (x .operator) ++ (windowChecks (x .first) (x .size) ++ (mapChecks (x .map) ++ imageChecks (imageIn x))))
+  unfolding lentChecks
+  lent-right = simp append-assoc
+
+  -- the answers of the stages, one after the other, make the answer of checks 1 to 14
+  lent-chain :
+      firstOf (lentChecks x) Load
+      ≡ orElse (firstOf (submissionChecks (x .submission)) Load)
+      (orElse (firstOf (operatorChecks (x .operator)) Load)
+      (orElse (firstOf (windowChecks (x .first) (x .size)) Load) (orElse (firstOf (mapChecks (x .map)) Load) (firstOf (imageChecks (imageIn x)) Load))))
+  lent-chain =
+      rw (
+        lent-right,
+        chain-append (submissionChecks (x .submission)) (operatorChecks (x .operator) ++ (windowChecks (x .first) (x .size) ++ (mapChecks (x .map) ++ imageChecks (imageIn x)))) submission-refuses,
+        chain-append (operatorChecks (x .operator)) (windowChecks (x .first) (x .size) ++ (mapChecks (x .map) ++ imageChecks (imageIn x))) operator-refuses,
+        chain-append (windowChecks (x .first) (x .size)) (mapChecks (x .map) ++ imageChecks (imageIn x)) window-refuses,
+        chain-append (mapChecks (x .map)) (imageChecks (imageIn x)) map-refuses,
+      )
+
+  -- where the submission is accepted, its layout is the one read
+  layout-read : isLoad (firstOf (submissionChecks (x .submission)) Load) ≡ true → parsed (x .submission) .layout ≡ layoutIn x
+  layout-read h = parsed-layout (x .submission) (sym (passes-is (submissionChecks (x .submission)) submission-refuses) ∙ h)
+
+  pub answer-is : (v : Answer)
+      → v ≡ orElse (parsed (x .submission) .answer)
+      (orElse (firstOf (operatorChecks (x .operator)) Load)
+      (orElse (firstOf (windowChecks (x .first) (x .size)) Load) (orElse (parsedMap (x .map) .answer) (judged (bytesOf (x .submission) (parsed (x .submission) .layout .image)) .answer))))
+      → v ≡ firstOf (lentChecks x) Load
+  unfolding parsed parsedMap
+  answer-is v e =
+      e
+      ∙ or-else-same (firstOf (submissionChecks (x .submission)) Load) _ _
+      (λ h. rw (layout-read h, judged-answer (imageIn x)) refl)
+      ∙ sym lent-chain
+
+-- what is known where none of checks 1 to 14 applies
+pub record Passed (x : Lent) : Type 0 where
+  pub submission : Accepted (x .submission)
+  pub window : x .first + x .size ≤ top
+  pub map : badMap (x .map) ≡ false
+  pub image : firstOf (imageChecks (imageIn x)) Load ≡ Load
+
+-- an answer that is a load, of checks that are all refusals
+loads : (ks : List (Check Answer)) → refuses ks ≡ true → isLoad (firstOf ks Load) ≡ true → firstOf ks Load ≡ Load
+loads ks r h = passes-on ks Load (sym (passes-is ks r) ∙ h)
+
+module _ (x : Lent) where
+  pub passed : isLoad (firstOf (lentChecks x) Load) ≡ true → Passed x
+  passed h =
+      let a = or-else-load _ _ (ap isLoad (sym (lent-chain x)) ∙ h) in
+      let b = or-else-load _ _ (a .1) in
+      let c = or-else-load _ _ (b .1) in
+      let d = or-else-load _ _ (c .1) in
+      record {
+        submission = accepted (x .submission) (sym (passes-is (submissionChecks (x .submission)) (submission-refuses x)) ∙ a .0);
+        window = window-fits (x .first) (x .size) .0 (loads _ (window-refuses x) (c .0));
+        map = load-good (x .map) (loads _ (map-refuses x) (d .0));
+        image = loads _ (image-refuses x) (d .1);
+      }
+
+module _ (x : Lent) (p : Passed x) where
+  count-small : layoutIn x .count ≤ moduleLimit
+  count-small = rw (layout-count (x .submission)) (p .submission .count)
+
+  string-small : (i : ℕ) → i < layoutIn x .count → moduleNo (layoutIn x) i .string .len ≤ stringLimit
+  string-small i l =
+      let h : i < moduleCount (x .submission) = omega (arith, layout-count (x .submission)) in
+      omega (arith, ap (λ (m : Module). m .string .len) (module-at (x .submission) i h), p .submission .string i h)
+
+  -- the information block is short, and not empty
+  pub block-small : (1 ≤ blockIn x) × (blockIn x < 2 ^ 13)
+  unfolding blockLength
+  block-small =
+      let b = block-bound (layoutIn x) stringLimit (length (x .map)) (length (lineIn x)) string-small in
+      let l : length (lineIn x) ≤ lineLimit = line-length (x .operator) (x .submission) in
+      let c = count-small in
+      omega (arith, b, good-map (x .map) (p .map) .short)
+
+  pub prepared : Prepared (boardIn x) (kernelIn x) (layoutIn x) (blockIn x)
+  unfolding listed
+  prepared =
+      record {
+        checked = record { pairs = good-map (x .map) (p .map) .few; top = p .window };
+        segments = omega (arith, accepted-image (imageIn x) (p .image) .one);
+        modules = count-small;
+        bytes = λ i l.
+            let h : i < moduleCount (x .submission) = omega (arith, layout-count (x .submission)) in
+            omega (arith, ap (λ (m : Module). m .«data» .len) (module-at (x .submission) i h), p .submission .bytes i h);
+        block = block-small .0;
+      }
+
+-- what the stages read, as their calls hand it over
+module _ (x : Lent) (r : Parsed) (m : ParsedMap) (i : List ℕ) (j : Judged)
+    (re : r ≡ parsed (x .submission)) (me : m ≡ parsedMap (x .map)) (ie : i ≡ bytesOf (x .submission) (r .layout .image)) (je : j ≡ judged i) where
+  pub verdict-is : (o w v : Answer) → o ≡ firstOf (operatorChecks (x .operator)) Load → w ≡ firstOf (windowChecks (x .first) (x .size)) Load
+      → v ≡ orElse (r .answer) (orElse o (orElse w (orElse (m .answer) (j .answer))))
+      → v ≡ firstOf (lentChecks x) Load
+  verdict-is o w v oe we e = answer-is x v (rw (oe, we, je, ie, me, re) at e)
+
+  module _ (h : isLoad (firstOf (lentChecks x) Load) ≡ true) where
+    pub layout-known : r .layout ≡ layoutIn x
+    layout-known = rw re (layout-read x (or-else-load _ _ (ap isLoad (sym (lent-chain x)) ∙ h) .0))
+
+    pub map-known : m .map ≡ mapOf (x .map)
+    map-known = rw (me, ← parsed-good (x .map) (passed x h .map)) refl
+
+    pub kernel-known : j .kernel ≡ kernelIn x
+    kernel-known = rw (je, ie, layout-known) (judged-load (imageIn x) (passed x h .image))
+
+module _ (x : Lent) where
+  pub decided-refused : (v : Answer) → v ≡ firstOf (lentChecks x) Load → isLoad v ≡ false → record { answer = v; plan = noPlan } ≡ decisionOf x
+  unfolding decisionOf
+  decided-refused v e h = rw (e, checks-split x) (stage-refuses (lentChecks x) _ _ (lent-refuses x) (rw e at h))
+
+  pub decided-on : isLoad (firstOf (lentChecks x) Load) ≡ true → memoryDecision (boardIn x) (kernelIn x) (layoutIn x) (blockIn x) ≡ decisionOf x
+  unfolding decisionOf
+  decided-on h = rw (checks-split x) (stage-passes (lentChecks x) (memoryChecks (boardIn x) (kernelIn x) (layoutIn x) (blockIn x)) _ (lent-refuses x) h)
+
+-- what the last stage is called with
+module _ (x : Lent) (b : Board) (k : Kernel) (l : Layout) (n : ℕ) (be : b ≡ boardIn x) (ke : k ≡ kernelIn x) (le : l ≡ layoutIn x) (ne : n ≡ blockIn x) where
+  pub prepared-is : Passed x → Prepared b k l n
+  prepared-is p =
+      let q = prepared x p in
+      record {
+        checked = record { pairs = rw be (q .checked .pairs); top = rw be (q .checked .top) };
+        segments = rw ke (q .segments);
+        modules = rw le (q .modules);
+        bytes = rw le (q .bytes);
+        block = rw ne (q .block);
+      }
+
+  pub decision-is : isLoad (firstOf (lentChecks x) Load) ≡ true → memoryDecision b k l n ≡ decisionOf x
+  decision-is h = rw (be, ke, le, ne) (decided-on x h)
+
+pub block-is : (x : Lent) (l : Layout) (line : List ℕ) (n : ℕ) → l ≡ layoutIn x → line ≡ lineIn x
+    → n ≡ blockLength (stringLengths l (l .count)) (length (x .map)) (length line)
+    → n ≡ blockIn x
+block-is x l line n le ze e = rw (le, ze) at e
+
+pub board-is : (x : Lent) (m : MemMap) (w : Span) → m ≡ mapOf (x .map) → w ≡ windowSpan (x .first) (x .size) → record { map = m; window = w } ≡ boardIn x
+board-is x m w me we = rw (me, we)

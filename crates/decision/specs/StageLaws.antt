@@ -1,0 +1,83 @@
+-- The last two stages of a decision: 15, then 16 and 17.
+--     kernel-refuses, kernel-passes, room-refuses, room-passes    the checks of both stages are refusals, and when they apply
+--     decided-closed, decided-no-room, decided-load               the decision on memory in each case
+-- Assumes nothing.
+use mathlib.Core.Path.{_≡_, refl, sym, ap, _∙_}
+use mathlib.Core.Bool.{Bool, true, false, cond, not, false≢true}
+use mathlib.Core.List.{List, [], _∷_, _++_, append-nil}
+use mathlib.Core.Logic.{⊎-elim}
+use Prim.Native.Nat.{ℕ, _+_, _≤_, _<_}
+use native.Mathlib.Omega.{arith}
+use borrow.Author.Tests.{lt-ltb, le-ltb}
+use lib.Dec.{ltb}
+use Rattle.laws.specs.Checks.{Check, firstOf}
+use Rattle.laws.specs.TestLaws.{lt-or-le}
+use Rattle.answer.specs.Answer.{isLoad}
+use Rattle.answer.specs.Order.{refuses}
+use Rattle.answer.specs.declared.Answer.{Answer}
+use Rattle.answer.specs.declared.Answer.the-variants.{Load, KernelNotOpen}
+use Rattle.submission.specs.declared.Layout.{Layout}
+use Rattle.image.specs.declared.Kernel.{Kernel}
+use Rattle.board.specs.declared.Board.{Board}
+use Rattle.board.specs.Open.{openAt}
+use Rattle.placement.specs.declared.Items.{Items}
+use Rattle.placement.specs.declared.Spans.{Spans}
+use Rattle.placement.specs.declared.Placed.{Placed}
+use Rattle.placement.specs.Order.{placeItems}
+use Rattle.decision.specs.declared.Decision.{Decision}
+use Rattle.decision.specs.Gather.{extentsOf, itemsOf}
+use Rattle.decision.specs.Decided.{kernelOpen, kernelChecks, roomChecks, noPlan, decidedBy, placedBy, memoryPlan, memoryDecision}
+use Rattle.decision.specs.DecidedLaws.{stage-refuses, stage-passes}
+
+module _ (b : Board) (k : Kernel) where
+  kernel-refuses : refuses (kernelChecks b k) ≡ true
+  unfolding refuses kernelChecks
+  kernel-refuses = refl
+
+  kernel-closed : kernelOpen b k ≡ false → KernelNotOpen ≡ firstOf (kernelChecks b k) Load
+  unfolding firstOf kernelChecks
+  kernel-closed e = rw e
+
+  kernel-opened : kernelOpen b k ≡ true → Load ≡ firstOf (kernelChecks b k) Load
+  unfolding firstOf kernelChecks
+  kernel-opened e = rw e
+
+-- no check of the room applies only where all modules and the information block were placed
+pub all-placed : (done n : ℕ) → isLoad (firstOf (roomChecks done n) Load) ≡ true → n + 1 ≤ done
+unfolding firstOf roomChecks
+all-placed done n h =
+    ⊎-elim
+    (λ (l : done < n). absurd (false≢true (rw (lt-ltb done n l) at h)))
+    (λ (l : n ≤ done).
+    ⊎-elim
+    (λ (m : done < n + 1). absurd (false≢true (rw (le-ltb done n l, lt-ltb done (n + 1) m) at h)))
+    (λ (m : n + 1 ≤ done). m)
+    (lt-or-le done (n + 1)))
+    (lt-or-le done n)
+
+module _ (b : Board) (k : Kernel) (l : Layout) (size : ℕ) where
+  -- the items placed, as the calls hand them over
+  pub placed-is : (r : Placed) (t : Spans) (q : Items) → t ≡ extentsOf k → q ≡ itemsOf l (k .pages) size → r ≡ placeItems (openAt b) t q → r ≡ placedBy b k l size
+  unfolding placedBy
+  placed-is r t q e f g = rw (g, e, f)
+
+  pub room-is : (r : Placed) (a : Answer) → r ≡ placedBy b k l size → a ≡ firstOf (roomChecks (r .done) (l .count)) Load → a ≡ firstOf (roomChecks (placedBy b k l size .done) (l .count)) Load
+  room-is r a e f = rw (← e) f
+
+  pub decided-closed : kernelOpen b k ≡ false → record { answer = KernelNotOpen; plan = noPlan } ≡ memoryDecision b k l size
+  decided-closed e =
+      rw (kernel-closed b k e)
+      (stage-refuses (kernelChecks b k) (roomChecks (placedBy b k l size .done) (l .count)) (memoryPlan b k l size) (kernel-refuses b k) (ap isLoad (sym (kernel-closed b k e))))
+
+  module _ (o : kernelOpen b k ≡ true) (a : Answer) (e : a ≡ firstOf (roomChecks (placedBy b k l size .done) (l .count)) Load) where
+    go-on : decidedBy (roomChecks (placedBy b k l size .done) (l .count)) (memoryPlan b k l size) ≡ memoryDecision b k l size
+    go-on =
+        stage-passes (kernelChecks b k) (roomChecks (placedBy b k l size .done) (l .count)) (memoryPlan b k l size) (kernel-refuses b k) (ap isLoad (sym (kernel-opened b k o)))
+
+    pub decided-no-room : isLoad a ≡ false → record { answer = a; plan = noPlan } ≡ memoryDecision b k l size
+    unfolding decidedBy
+    decided-no-room h = rw (← go-on, ← e, h)
+
+    pub decided-load : isLoad a ≡ true → record { answer = a; plan = memoryPlan b k l size } ≡ memoryDecision b k l size
+    unfolding decidedBy
+    decided-load h = rw (← go-on, ← e, h)

@@ -1,0 +1,96 @@
+// What is placed, and beside what; and the spans of the modules among those placed.
+use address::PhysAddr;
+use address::Span;
+use image::Kernel;
+use placement::Item;
+use placement::Items;
+use placement::Spans;
+use submission::Layout;
+ghost use mathlib.Core.Path.{_≡_};
+ghost use Prim.Native.Nat.{_+_, _≤_};
+ghost use Rattle.submission.specs.Format.{moduleLimit};
+ghost use Rattle.placement.specs.Free.{maxSpans};
+ghost use Rattle.decision.specs.Gather.{segmentLimit, extentNo, extentsOf, itemNo, itemsOf, moduleSpans};
+
+// The kernel's extents, as spans taken.
+pub fn extents(kernel: Kernel) -> Spans
+    requires { ⌜ kernel .count ≤ segmentLimit ⌝ }
+    ensures { λ r. ⌜ r ≡ extentsOf kernel ⌝ }
+{
+    let none = Span {
+        start: PhysAddr(0),
+        end: PhysAddr(0),
+    };
+    let mut list = [none; 33];
+    let mut i = 0;
+    while i < kernel.count {
+        list[i] = extent(kernel, i);
+        i += 1;
+    }
+    Spans { list, count: i }
+}
+
+// The extent of a segment.
+pub fn extent(kernel: Kernel, i: usize) -> Span
+    requires { ⌜ i + 1 ≤ segmentLimit ⌝ }
+    ensures { λ r. ⌜ r ≡ extentNo kernel i ⌝ }
+{
+    let segment = kernel.segments[i];
+    let start = segment.start;
+    let end = segment.end;
+    Span { start, end }
+}
+
+// The modules of a submission, on pages or not, and an information block of `size` bytes, as items.
+pub fn items(layout: Layout, pages: bool, size: u64) -> Items
+    requires { ⌜ layout .count ≤ moduleLimit ⌝ }
+    ensures { λ r. ⌜ r ≡ itemsOf layout pages size ⌝ }
+{
+    let none = Item {
+        length: 0,
+        boundary: 0,
+    };
+    let mut list = [none; 17];
+    let mut i = 0;
+    while i <= layout.count {
+        list[i] = item(layout, pages, size, i);
+        i += 1;
+    }
+    Items { list, count: i }
+}
+
+// The item of an index: a module, or behind the last one the information block.
+fn item(layout: Layout, pages: bool, size: u64, i: usize) -> Item
+    requires { ⌜ (layout .count ≤ moduleLimit) × (i ≤ layout .count) ⌝ }
+    ensures { λ r. ⌜ r ≡ itemNo layout pages size i ⌝ }
+{
+    if i < layout.count {
+        let m = layout.modules[i];
+        return Item {
+            length: m.data.len as u64,
+            boundary: PhysAddr::boundary(pages),
+        };
+    }
+    Item {
+        length: size,
+        boundary: PhysAddr::boundary(false),
+    }
+}
+
+// The spans of `count` modules among those placed, of which the first is at the index `from`.
+pub fn module_spans(spans: Spans, from: usize, count: usize) -> [Span; 16]
+    requires { ⌜ (count ≤ moduleLimit) × (from + count ≤ maxSpans) ⌝ }
+    ensures { λ r. ⌜ r ≡ moduleSpans spans from count ⌝ }
+{
+    let none = Span {
+        start: PhysAddr(0),
+        end: PhysAddr(0),
+    };
+    let mut list = [none; 16];
+    let mut i = 0;
+    while i < count {
+        list[i] = spans.list[from + i];
+        i += 1;
+    }
+    list
+}
