@@ -1,6 +1,6 @@
 // The two countings of a load: physical addresses, and offsets in the image. Neither turns into the other here.
 ghost use mathlib.Core.Path.{_≡_};
-ghost use Prim.Native.Nat.{_<_, _^_};
+ghost use Prim.Native.Nat.{_-_, _<_, _^_};
 ghost use lib.Dec.{ltb};
 ghost use Rattle.address.specs.Address.{top, boundaryOf, floor, roundUp, inside};
 
@@ -59,6 +59,16 @@ impl PhysAddr {
         ensures { λ r. ⌜ r .0 ≡ roundUp floor boundary ⌝ }
     {
         PhysAddr(PhysAddr::FLOOR).round_up(boundary)
+    }
+
+    // How many addresses there are from `base` up to the address; none where it is not above.
+    pub fn offset_from(self, base: PhysAddr) -> usize
+        ensures { λ r. ⌜ r ≡ self .0 - base .0 ⌝ }
+    {
+        if self.0 < base.0 {
+            return 0;
+        }
+        (self.0 - base.0) as usize
     }
 
     // Whether the address is above the top.
