@@ -131,6 +131,7 @@ module _ (x : Lent) where
 
 -- what is known where none of checks 1 to 14 applies
 pub record Passed (x : Lent) : Type 0 where
+  pub rules : passes (submissionChecks (x .submission)) ≡ true
   pub submission : Accepted (x .submission)
   pub window : x .first + x .size ≤ top
   pub map : badMap (x .map) ≡ false
@@ -147,8 +148,10 @@ module _ (x : Lent) where
       let b = or-else-load _ _ (a .1) in
       let c = or-else-load _ _ (b .1) in
       let d = or-else-load _ _ (c .1) in
+      let r = sym (passes-is (submissionChecks (x .submission)) (submission-refuses x)) ∙ a .0 in
       record {
-        submission = accepted (x .submission) (sym (passes-is (submissionChecks (x .submission)) (submission-refuses x)) ∙ a .0);
+        rules = r;
+        submission = accepted (x .submission) r;
         window = window-fits (x .first) (x .size) .0 (loads _ (window-refuses x) (c .0));
         map = load-good (x .map) (loads _ (map-refuses x) (d .0));
         image = loads _ (image-refuses x) (d .1);

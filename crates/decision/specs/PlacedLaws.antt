@@ -1,7 +1,7 @@
 -- What placing the items of a load leaves.
 --     Prepared           what the checks before 15 have shown
 --     items-ready        the items may be placed
---     item-at            the item of an index
+--     item-at, item-some the item of an index, which is not empty
 --     in-order           demand 3 of the items of a load, beside the kernel's extents
 --     span-below         a placed item begins below 2^32
 -- Assumes nothing.
@@ -81,11 +81,16 @@ module _ (b : Board) (k : Kernel) (l : Layout) (size : ℕ) (p : Prepared b k l 
         each = each-item Bounded l (k .pages) size (λ i h. bounded (k .pages) (moduleNo l i .«data» .len)) (bounded false size);
       }
 
+  -- no item is empty
+  pub item-some : (i : ℕ) → i < l .count + 1 → 0 < itemAt (itemsOf l (k .pages) size) i .length
+  unfolding itemsOf
+  item-some i h = each-item (λ (q : Item). 0 < q .length) l (k .pages) size (λ j u. p .bytes j u) (p .block) i h
+
   pub in-order : InOrder (openAt b) (extentsOf k) (itemsOf l (k .pages) size) (placedBy b k l size)
   unfolding itemsOf extentsOf placedBy
   in-order =
       board-in-order b (itemsOf l (k .pages) size)
-      (each-item (λ (q : Item). 0 < q .length) l (k .pages) size (λ i h. p .bytes i h) (p .block))
+      item-some
       (extentsOf k)
       (omega (arith, p .modules, p .segments, length-table (extentNo k) maxSpans noSpan (k .count) (omega (arith, p .segments))))
 
@@ -94,5 +99,5 @@ module _ (b : Board) (k : Kernel) (l : Layout) (size : ℕ) (p : Prepared b k l 
   unfolding extentsOf itemsOf
   span-below h i u =
       let s = in-order .stands i (omega arith) in
-      let n : 0 < itemAt (itemsOf l (k .pages) size) i .length = each-item (λ (q : Item). 0 < q .length) l (k .pages) size (λ j v. p .bytes j v) (p .block) i u in
+      let n = item-some i u in
       open-below b (spanAt (placedBy b k l size .spans) (k .count + i) .start .0) (s .suits .opened _ (omega arith) (omega arith))

@@ -1,5 +1,5 @@
 -- The last two stages of a decision: 15, then 16 and 17.
---     kernel-refuses, kernel-passes, room-refuses, room-passes    the checks of both stages are refusals, and when they apply
+--     kernel-refuses, kernel-passed, all-placed                   when no check of a stage applies
 --     decided-closed, decided-no-room, decided-load               the decision on memory in each case
 -- Assumes nothing.
 use mathlib.Core.Path.{_≡_, refl, sym, ap, _∙_}
@@ -11,7 +11,7 @@ use native.Mathlib.Omega.{arith}
 use borrow.Author.Tests.{lt-ltb, le-ltb}
 use lib.Dec.{ltb}
 use Rattle.laws.specs.Checks.{Check, firstOf}
-use Rattle.laws.specs.TestLaws.{lt-or-le}
+use Rattle.laws.specs.TestLaws.{lt-or-le, true-or-false}
 use Rattle.answer.specs.Answer.{isLoad}
 use Rattle.answer.specs.Order.{refuses}
 use Rattle.answer.specs.declared.Answer.{Answer}
@@ -30,7 +30,7 @@ use Rattle.decision.specs.Decided.{kernelOpen, kernelChecks, roomChecks,
 use Rattle.decision.specs.DecidedLaws.{stage-refuses, stage-passes}
 
 module _ (b : Board) (k : Kernel) where
-  kernel-refuses : refuses (kernelChecks b k) ≡ true
+  pub kernel-refuses : refuses (kernelChecks b k) ≡ true
   unfolding refuses kernelChecks
   kernel-refuses = refl
 
@@ -41,6 +41,12 @@ module _ (b : Board) (k : Kernel) where
   kernel-opened : kernelOpen b k ≡ true → Load ≡ firstOf (kernelChecks b k) Load
   unfolding firstOf kernelChecks
   kernel-opened e = rw e
+
+  -- no check of the kernel's memory applies only where its extents are open
+  pub kernel-passed : isLoad (firstOf (kernelChecks b k) Load) ≡ true → kernelOpen b k ≡ true
+  unfolding firstOf kernelChecks
+  kernel-passed h =
+      ⊎-elim (λ (e : kernelOpen b k ≡ true). e) (λ (e : kernelOpen b k ≡ false). absurd (false≢true (rw e at h))) (true-or-false (kernelOpen b k))
 
 -- no check of the room applies only where all modules and the information block were placed
 pub all-placed : (done n : ℕ) → isLoad (firstOf (roomChecks done n) Load) ≡ true → n + 1 ≤ done
