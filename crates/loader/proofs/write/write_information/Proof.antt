@@ -1,0 +1,47 @@
+-- `loader::write::write_information` meets its contract: the block's parts, as they are read.
+-- Assumes nothing.
+use mathlib.Core.Path.{_≡_, sym, _∙_, ap}
+use Rattle.memory_map.specs.PairsLaws.{parsed-count}
+use Rattle.loader.proofs.Turns.{block-room, block-written}
+use borrow.Author.Needs.{needs}
+use Rattle.loader.proofs.write.write_information.Statement.{statement}
+use Rattle.loader.proofs.write.write_information.Tie as tie
+
+command-line-requires : tie.Need-command-line-requires
+command-line-requires c κs = search needs
+
+parse-requires : tie.Need-parse-requires
+parse-requires c κs = search needs
+
+mem-lower-requires : tie.Need-mem-lower-requires
+mem-lower-requires c κs = rw (c .before .parse .ensures) (parsed-count _)
+
+mem-upper-requires : tie.Need-mem-upper-requires
+mem-upper-requires c κs = rw (c .before .before .parse .ensures) (parsed-count _)
+
+offset-from-requires : tie.Need-offset-from-requires
+offset-from-requires c κs = search needs
+
+write-block-requires : tie.Need-write-block-requires
+write-block-requires c κs =
+    let x = c .before .before .before .before .before .before .before .before .before .before .before in
+    (x .pre .0, x .pre .1, block-room _ _ _ _ _ _ _ _ (c .before .before .before .before .before .before .command-line .ensures) (c .before .offset-from .ensures) (x .pre .2))
+
+same-length : tie.Need-same-length
+same-length c = search needs
+
+returns : tie.Need-returns
+returns c = block-written _ _ _ _ _ _ _ _ _ _ _ _ _ _ (c .before .before .before .before .before .before .before .before .before .command-line .ensures) (c .before .before .before .before .before .before .before .before .parse .ensures) (c .before .before .before .before .before .before .mem-lower .ensures) (c .before .before .before .before .before .mem-upper .ensures) (c .before .before .before .before .offset-from .ensures) (c .before .before .write-block .ensures)
+
+pub write-information-spec : {M : Type 1} → statement M
+write-information-spec =
+    tie.close
+    (tie.spec
+    command-line-requires
+    parse-requires
+    mem-lower-requires
+    mem-upper-requires
+    offset-from-requires
+    write-block-requires
+    same-length
+    returns)

@@ -1,0 +1,48 @@
+-- `loader::write::write_segment` meets its contract: the load bytes, and the zeros behind them.
+-- Assumes nothing.
+use mathlib.Core.Path.{_≡_, ap, _∙_}
+use Rattle.loader.proofs.Turns.{segment-written}
+use borrow.Author.Needs.{needs}
+use Rattle.loader.proofs.write.write_segment.Statement.{statement}
+use Rattle.loader.proofs.write.write_segment.Tie as tie
+
+mul-segment : tie.Need-mul-segment
+mul-segment c = search needs
+
+element-copy-out-segment : tie.Need-element-copy-out-segment
+element-copy-out-segment c = search needs
+
+offset-from-requires : tie.Need-offset-from-requires
+offset-from-requires c κs = search needs
+
+bytes-of-requires : tie.Need-bytes-of-requires
+bytes-of-requires c κs = search needs
+
+offset-from-requires-2 : tie.Need-offset-from-requires-2
+offset-from-requires-2 c κs = search needs
+
+offset-from-requires-3 : tie.Need-offset-from-requires-3
+offset-from-requires-3 c κs = search needs
+
+write-filled-requires : tie.Need-write-filled-requires
+write-filled-requires c κs = search needs
+
+same-length : tie.Need-same-length
+same-length c = search needs
+
+returns : tie.Need-returns
+returns c = segment-written _ _ _ _ _ _ _ _ _ _ (c .before .before .before .before .before .before .before .offset-from .ensures) (c .before .before .before .before .before .before .bytes-of .ensures) (c .before .before .before .before .offset-from2 .ensures) (c .before .before .before .offset-from3 .ensures) (c .before .before .write-filled .ensures)
+
+pub write-segment-spec : {M : Type 1} → statement M
+write-segment-spec =
+    tie.close
+    (tie.spec
+    mul-segment
+    element-copy-out-segment
+    offset-from-requires
+    bytes-of-requires
+    offset-from-requires-2
+    offset-from-requires-3
+    write-filled-requires
+    same-length
+    returns)

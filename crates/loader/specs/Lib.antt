@@ -1,0 +1,4 @@
+-- The definitions that the contracts of `loader` cite, and their laws.
+pub mod Memory
+pub mod LoadLaws
+pub mod WriteLaws

@@ -1,0 +1,166 @@
+-- What is known of a load: where each of its spans lies.
+--     Loads, loads            no check refuses: what the stages have shown
+--     spanIn, countIn         the spans of a load: the kernel's extents, the modules, and the information block
+--     Inside, span-inside     each of them lies in open memory, so inside the window and below the top
+--     span-apart              no two of them share an address, but for two extents of the kernel
+--     module-span, block-span the plan's modules and block among them
+--     module-length, block-length    how long they are
+-- Assumes nothing.
+use mathlib.Core.Path.{_≡_, refl, sym, ap, _∙_}
+use mathlib.Core.Bool.{Bool, true, false}
+use mathlib.Core.List.{List}
+use mathlib.Core.Logic.{⊎-elim}
+use Prim.Native.Nat.{ℕ, _+_, _-_, _^_, _≤_, _<_}
+use native.Mathlib.Omega.{arith}
+use borrow.Author.Tests.{not-true, not-false}
+use lib.ListN.{length, getD}
+use Rattle.laws.specs.Checks.{firstOf}
+use Rattle.laws.specs.Tests.{allFrom}
+use Rattle.laws.specs.TestLaws.{all-elim, lt-or-le}
+use Rattle.laws.specs.TableLaws.{table-at, length-table}
+use Rattle.address.specs.Address.{floor, top}
+use Rattle.address.specs.declared.Span.{Span}
+use Rattle.answer.specs.Answer.{isLoad}
+use Rattle.answer.specs.Order.{chain-append, or-else-load}
+use Rattle.answer.specs.declared.Answer.the-variants.{Load}
+use Rattle.submission.specs.Format.{moduleLimit}
+use Rattle.image.specs.JudgedLaws.{segment, accepted}
+use Rattle.board.specs.declared.Board.{Board}
+use Rattle.board.specs.Open.{openAt}
+use Rattle.board.specs.OpenLaws.{open-is}
+use Rattle.placement.specs.declared.Item.{Item}
+use Rattle.placement.specs.declared.Spans.{Spans}
+use Rattle.placement.specs.Free.{maxSpans, spanAt}
+use Rattle.placement.specs.FreeLaws.{Holds}
+use Rattle.placement.specs.Order.{itemAt}
+use Rattle.placement.specs.Demand.{InOrder, Stands}
+use Rattle.decision.specs.Lent.{Lent, layoutIn, imageIn, kernelIn, boardIn, blockIn}
+use Rattle.decision.specs.Gather.{noSpan, segmentNo, extentNo, extentsOf, itemsOf, moduleNo, moduleSpans}
+use Rattle.decision.specs.Decided.{extentOpen, kernelOpen, kernelChecks, roomChecks, placedBy, planOf}
+use Rattle.decision.specs.Decision.{checks, answerOf, placedIn, planIn}
+use Rattle.decision.specs.DecisionLaws.{lentChecks, checks-split, lent-refuses, Passed, passed, prepared}
+use Rattle.decision.specs.PlacedLaws.{item-at, item-some, item-module, item-block, in-order}
+use Rattle.decision.specs.StageLaws.{kernel-refuses, kernel-passed, all-placed}
+
+-- what is known where no check refuses
+pub record Loads (x : Lent) : Type 0 where
+  pub passed : Passed x
+  pub opened : kernelOpen (boardIn x) (kernelIn x) ≡ true
+  pub placed : layoutIn x .count + 1 ≤ placedIn x .done
+
+pub loads : (x : Lent) → isLoad (answerOf x) ≡ true → Loads x
+loads x h =
+    let e = checks-split x in
+    let a = or-else-load _ _ (ap isLoad (sym (chain-append (lentChecks x) _ (lent-refuses x))) ∙ (rw e at h)) in
+    let b = or-else-load _ _ (ap isLoad (sym (chain-append (kernelChecks (boardIn x) (kernelIn x)) _ (kernel-refuses (boardIn x) (kernelIn x)))) ∙ a .1) in
+    record { passed = passed x (a .0); opened = kernel-passed (boardIn x) (kernelIn x) (b .0); placed = all-placed _ _ (b .1) }
+
+-- the spans of a load, in this order: the kernel's extents, the modules, the information block
+abbrev pub spanIn : Lent → ℕ → Span
+spanIn x j = spanAt (placedIn x .spans) j
+
+abbrev pub countIn : Lent → ℕ
+countIn x = kernelIn x .count + (layoutIn x .count + 1)
+
+-- a span is not empty, and lies inside the window and below the top
+pub record Inside (x : Lent) (s : Span) : Type 0 where
+  pub some : s .start .0 < s .end .0
+  pub low : x .first ≤ s .start .0
+  pub high : s .end .0 ≤ x .first + x .size
+  pub top : s .end .0 ≤ top
+
+module _ (x : Lent) (l : Loads x) where
+  pub order : InOrder (openAt (boardIn x)) (extentsOf (kernelIn x)) (itemsOf (layoutIn x) (kernelIn x .pages) (blockIn x)) (placedIn x)
+  order = in-order (boardIn x) (kernelIn x) (layoutIn x) (blockIn x) (prepared x (l .passed))
+
+  pub all-done : placedIn x .done ≡ layoutIn x .count + 1
+  unfolding itemsOf
+  all-done = omega (arith, order .done, l .placed)
+
+  pub span-count : placedIn x .spans .count ≡ countIn x
+  unfolding extentsOf
+  span-count = omega (arith, order .count, all-done)
+
+  -- the kernel's extents come first
+  pub kernel-span : (j : ℕ) → j < kernelIn x .count → spanIn x j ≡ extentNo (kernelIn x) j
+  unfolding extentsOf
+  kernel-span j h = order .kept j h ∙ table-at (extentNo (kernelIn x)) maxSpans noSpan (kernelIn x .count) j h
+
+  -- then the items
+  pub item-span : (i : ℕ) → i < layoutIn x .count + 1 → Stands (openAt (boardIn x)) (placedIn x .spans) (kernelIn x .count + i) (itemAt (itemsOf (layoutIn x) (kernelIn x .pages) (blockIn x)) i)
+  unfolding extentsOf
+  item-span i h = order .stands i (omega (arith, all-done))
+
+  pub one-segment : kernelIn x .count ≡ 1
+  one-segment = accepted (imageIn x) (l .passed .image) .one
+
+  -- every address of a span is open
+  pub span-open : (j : ℕ) → j < countIn x → (a : ℕ) → Holds (spanIn x j) a → openAt (boardIn x) a ≡ true
+  unfolding extentsOf kernelOpen extentOpen
+  span-open j h a m =
+      ⊎-elim
+      (λ (u : j < kernelIn x .count).
+      let e = all-elim (extentOpen (boardIn x) (kernelIn x)) 0 (kernelIn x .count) (l .opened) j (omega arith) (omega arith) in
+      let s = kernel-span j u in
+      let p : spanIn x j .start .0 ≡ extentNo (kernelIn x) j .start .0 = ap (λ (t : Span). t .start .0) s in
+      let q : spanIn x j .end .0 ≡ extentNo (kernelIn x) j .end .0 = ap (λ (t : Span). t .end .0) s in
+      all-elim (openAt (boardIn x)) (extentNo (kernelIn x) j .start .0) _ e a (omega arith) (omega arith))
+      (λ (u : kernelIn x .count ≤ j). order .opened j u (omega (arith, span-count)) a m)
+      (lt-or-le j (kernelIn x .count))
+
+  -- no span is empty
+  pub span-some : (j : ℕ) → j < countIn x → spanIn x j .start .0 < spanIn x j .end .0
+  span-some j h =
+      ⊎-elim
+      (λ (u : j < kernelIn x .count).
+      let z : j ≡ 0 = omega (arith, one-segment) in
+      let k = accepted (imageIn x) (l .passed .image) in
+      let s : spanIn x j ≡ extentNo (kernelIn x) 0 = kernel-span j u ∙ ap (extentNo (kernelIn x)) z in
+      rw s (omega (arith, k .low, k .high, k .end)))
+      (λ (u : kernelIn x .count ≤ j).
+      let e : kernelIn x .count + (j - kernelIn x .count) ≡ j = omega arith in
+      let n = item-some (boardIn x) (kernelIn x) (layoutIn x) (blockIn x) (prepared x (l .passed)) (j - kernelIn x .count) (omega arith) in
+      let s = item-span (j - kernelIn x .count) (omega arith) .length in
+      rw e at (first-below s n))
+      (lt-or-le j (kernelIn x .count))
+    where
+      first-below : {a b n : ℕ} → b ≡ a + n → 0 < n → a < b
+      first-below {a} {b} {n} e p = omega arith
+
+  -- each span lies inside the window, and below the top
+  pub span-inside : (j : ℕ) → j < countIn x → Inside x (spanIn x j)
+  span-inside j h =
+      let s = span-some j h in
+      let a = open-is (boardIn x) (spanIn x j .start .0) .0 (span-open j h (spanIn x j .start .0) (omega arith, s)) .window in
+      let b = open-is (boardIn x) (spanIn x j .end .0 - 1) .0 (span-open j h (spanIn x j .end .0 - 1) (omega arith, omega arith)) .window in
+      record { some = s; low = a .0; high = omega (arith, b .1); top = omega (arith, b .1, l .passed .window) }
+
+  -- no two spans share an address
+  pub span-apart : (i j : ℕ) → i < j → j < countIn x → (a : ℕ) → Holds (spanIn x i) a → Holds (spanIn x j) a → ⊥
+  unfolding extentsOf
+  span-apart i j u h a p q =
+      ⊎-elim
+      (λ (v : j < kernelIn x .count). omega (arith, one-segment))
+      (λ (v : kernelIn x .count ≤ j). order .apart i j u v (omega (arith, span-count)) a p q)
+      (lt-or-le j (kernelIn x .count))
+
+  -- the plan's modules and its block, among the spans
+  pub module-span : (i : ℕ) → i < layoutIn x .count → getD (planIn x .modules) i noSpan ≡ spanIn x (kernelIn x .count + i)
+  unfolding planOf moduleSpans
+  module-span i h = table-at (λ j. spanAt (placedIn x .spans) (kernelIn x .count + j)) moduleLimit noSpan (layoutIn x .count) i h
+
+  pub block-span : planIn x .block ≡ spanIn x (kernelIn x .count + layoutIn x .count)
+  unfolding planOf
+  block-span = refl
+
+  -- a module's span is as long as its data, and the block's as long as the block
+  pub module-length : (i : ℕ) → i < layoutIn x .count → spanIn x (kernelIn x .count + i) .end .0 ≡ spanIn x (kernelIn x .count + i) .start .0 + moduleNo (layoutIn x) i .«data» .len
+  module-length i h =
+      item-span i (omega arith) .length
+      ∙ ap (λ (q : Item). spanIn x (kernelIn x .count + i) .start .0 + q .length) (item-at (layoutIn x) (kernelIn x .pages) (blockIn x) i (omega arith) ∙ item-module (layoutIn x) (kernelIn x .pages) (blockIn x) i h)
+
+  pub block-length : planIn x .block .end .0 ≡ planIn x .block .start .0 + blockIn x
+  unfolding planOf
+  block-length =
+      item-span (layoutIn x .count) (omega arith) .length
+      ∙ ap (λ (q : Item). spanIn x (kernelIn x .count + layoutIn x .count) .start .0 + q .length) (item-at (layoutIn x) (kernelIn x .pages) (blockIn x) (layoutIn x .count) (omega arith) ∙ item-block (layoutIn x) (kernelIn x .pages) (blockIn x))

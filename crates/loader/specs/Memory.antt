@@ -1,0 +1,70 @@
+-- The window after a load.                                                                          rule: WRITING
+--     segmentWrite    a segment: its load bytes, then zeros over its bss
+--     moduleWrite     a module's data
+--     contentsFor, contentsIn, blockWrite    the information block
+--     writesOf        all writes of a load
+--     memoryAfter     the window after a load, and after a refusal
+--     Loaded          a plan is that of a load
+-- Assumes nothing.
+use mathlib.Core.Path.{_≡_}
+use mathlib.Core.Bool.{true, cond}
+use mathlib.Core.List.{List, [], _∷_, _++_}
+use Prim.Native.Nat.{ℕ, _-_}
+use lib.ListN.{getD}
+use Rattle.laws.specs.Table.{listed}
+use Rattle.memory.specs.Patched.{zeros}
+use Rattle.memory.specs.Writes.{Write, written}
+use Rattle.address.specs.declared.Span.{Span}
+use Rattle.answer.specs.Answer.{isLoad}
+use Rattle.submission.specs.declared.Layout.{Layout}
+use Rattle.submission.specs.Format.{bytesOf}
+use Rattle.image.specs.declared.Kernel.{Kernel}
+use Rattle.submission.specs.CommandLine.{commandLine}
+use Rattle.memory_map.specs.Pairs.{parsed}
+use Rattle.memory_map.specs.Sizes.{memLower, memUpper}
+use Rattle.information.specs.Information.{Contents, contentsOf, blockOf}
+use Rattle.decision.specs.declared.Plan.{Plan}
+use Rattle.decision.specs.Lent.{Lent, layoutIn, imageIn}
+use Rattle.decision.specs.Gather.{noSpan, segmentNo, moduleNo}
+use Rattle.decision.specs.Decision.{answerOf, planIn}
+
+-- the first load byte of segment i stands at its start; f is the window's first address
+unfoldable pub segmentWrite : ℕ → List ℕ → Kernel → ℕ → Write
+segmentWrite f image k i =
+    let s = segmentNo k i in
+    record {
+      at = s .start .0 - f;
+      bytes = bytesOf image (record { at = s .offset .0; len = s .loaded .0 - s .start .0 }) ++ zeros (s .end .0 - s .loaded .0);
+    }
+
+abbrev pub spanNo : List Span → ℕ → Span
+spanNo spans i = getD spans i noSpan
+
+unfoldable pub moduleWrite : ℕ → List ℕ → Layout → List Span → ℕ → Write
+moduleWrite f s l spans i = record { at = spanNo spans i .start .0 - f; bytes = bytesOf s (moduleNo l i .«data») }
+
+-- what the information block says of modules at these spans, standing from the address `start` on
+abbrev pub contentsFor : List ℕ → List ℕ → List ℕ → Layout → List Span → ℕ → Contents
+contentsFor s operator m l spans start =
+    contentsOf s l spans m (commandLine operator s) start (memLower (parsed m .map)) (memUpper (parsed m .map))
+
+unfoldable pub contentsIn : Lent → Contents
+contentsIn x = contentsFor (x .submission) (x .operator) (x .map) (layoutIn x) (planIn x .modules) (planIn x .block .start .0)
+
+unfoldable pub blockWrite : Lent → Write
+blockWrite x = record { at = planIn x .block .start .0 - x .first; bytes = blockOf (contentsIn x) }
+
+-- the kernel's segments, the modules, and the information block
+unfoldable pub writesOf : Lent → List Write
+writesOf x =
+    listed (segmentWrite (x .first) (imageIn x) (planIn x .kernel)) (planIn x .kernel .count)
+    ++ listed (moduleWrite (x .first) (x .submission) (layoutIn x) (planIn x .modules)) (layoutIn x .count)
+    ++ (blockWrite x ∷ [])
+
+-- a load makes its writes, and a refusal none
+unfoldable pub memoryAfter : Lent → List ℕ → List ℕ
+memoryAfter x w = cond (isLoad (answerOf x)) (written w (writesOf x)) w
+
+pub record Loaded (x : Lent) (p : Plan) : Type 0 where
+  pub load : isLoad (answerOf x) ≡ true
+  pub plan : p ≡ planIn x

@@ -1,0 +1,152 @@
+// Writing a load into the window, by its plan.
+use address::PhysAddr;
+use address::Span;
+use decision::Plan;
+use image::Kernel;
+use submission::Layout;
+use submission::Part;
+ghost use mathlib.Core.Path.{_≡_};
+ghost use mathlib.Core.List.{_++_};
+ghost use Prim.Native.Nat.{_+_, _-_, _≤_};
+ghost use lib.ListN.{length};
+ghost use Rattle.laws.specs.Table.{listed};
+ghost use Rattle.memory.specs.Patched.{patched, zeros};
+ghost use Rattle.memory.specs.Writes.{written};
+ghost use Rattle.submission.specs.Format.{moduleLimit};
+ghost use Rattle.submission.specs.CommandLine.{commandLine};
+ghost use Rattle.information.specs.Information.{blockOf};
+ghost use Rattle.information.specs.Writing.{SpansLow, StringsIn, Room};
+ghost use Rattle.decision.specs.Lent.{Lent};
+ghost use Rattle.decision.specs.Gather.{segmentLimit};
+ghost use Rattle.loader.specs.Memory.{segmentWrite, moduleWrite, contentsFor, writesOf, Loaded};
+
+// Writes everything of a load: the kernel, the modules, and the information block.
+pub fn write_load<'a>(
+    window: &mut [u8],
+    first: u32,
+    submission: &'a [u8],
+    operator: &'a [u8],
+    map: &[u8],
+    plan: Plan,
+)
+    requires { ⌜ Loaded (record { submission = now submission; operator = now operator; map = now map; first = first; size = length (now window) }) plan ⌝ }
+    ensures { λ _. ⌜ now (window .exit) ≡ written (now (window .entry)) (writesOf (record { submission = now (submission .entry); operator = now (operator .entry); map = now (map .entry); first = first; size = length (now (window .entry)) })) ⌝ }
+{
+    let base = PhysAddr(first as u64);
+    let read = submission::parse(submission);
+    let layout = read.layout;
+    let kernel = plan.kernel;
+    let modules = plan.modules;
+    let block = plan.block;
+    let image = submission::bytes_of(submission, layout.image);
+    write_kernel(window, base, image, kernel);
+    write_modules(window, base, submission, layout, modules);
+    let start = block.start;
+    write_information(
+        window,
+        base,
+        submission,
+        operator,
+        map,
+        layout,
+        modules,
+        start,
+    );
+}
+
+// Writes the information block, which stands from the address `start` on.
+fn write_information<'a>(
+    window: &mut [u8],
+    base: PhysAddr,
+    submission: &'a [u8],
+    operator: &'a [u8],
+    map: &[u8],
+    layout: Layout,
+    modules: [Span; 16],
+    start: PhysAddr,
+)
+    requires { ⌜ SpansLow layout modules × StringsIn (now submission) layout × Room layout (length (now map)) (length (commandLine (now operator) (now submission))) (start .0) (start .0 - base .0) (length (now window)) ⌝ }
+    ensures { λ _. ⌜ now (window .exit) ≡ patched (now (window .entry)) (start .0 - base .0) (blockOf (contentsFor (now (submission .entry)) (now (operator .entry)) (now (map .entry)) layout modules (start .0))) ⌝ }
+{
+    let line = submission::command_line(operator, submission);
+    let parsed = memory_map::parse::parse(map);
+    let pairs = parsed.map;
+    let lower = memory_map::sizes::mem_lower(pairs);
+    let upper = memory_map::sizes::mem_upper(pairs);
+    let at = start.offset_from(base);
+    information::write::write_block(
+        window,
+        at,
+        submission,
+        layout,
+        modules,
+        map,
+        line,
+        start,
+        lower,
+        upper,
+    );
+}
+
+// Writes the kernel's segments: their load bytes, and zeros over the bss.
+pub fn write_kernel(window: &mut [u8], base: PhysAddr, image: &[u8], kernel: Kernel)
+    requires { ⌜ kernel .count ≤ segmentLimit ⌝ }
+    ensures { λ _. ⌜ now (window .exit) ≡ written (now (window .entry)) (listed (segmentWrite (base .0) (now (image .entry)) kernel) (kernel .count)) ⌝ }
+{
+    let mut i = 0;
+    while i < kernel.count {
+        write_segment(window, base, image, kernel, i);
+        i += 1;
+    }
+}
+
+// Writes one segment.
+fn write_segment(window: &mut [u8], base: PhysAddr, image: &[u8], kernel: Kernel, i: usize)
+    requires { ⌜ i + 1 ≤ segmentLimit ⌝ }
+    ensures { λ _. ⌜ now (window .exit) ≡ patched (now (window .entry)) (segmentWrite (base .0) (now (image .entry)) kernel i .at) (segmentWrite (base .0) (now (image .entry)) kernel i .bytes) ⌝ }
+{
+    let segment = kernel.segments[i];
+    let part = Part {
+        at: segment.offset.0,
+        len: segment.loaded.offset_from(segment.start),
+    };
+    let bytes = submission::bytes_of(image, part);
+    write_filled(
+        window,
+        segment.start.offset_from(base),
+        bytes,
+        segment.end.offset_from(segment.loaded),
+    );
+}
+
+// Writes bytes, and `count` zeros behind them.
+fn write_filled(window: &mut [u8], at: usize, bytes: &[u8], count: usize)
+    ensures { λ _. ⌜ now (window .exit) ≡ patched (now (window .entry)) at (now (bytes .entry) ++ zeros count) ⌝ }
+{
+    if window.len() <= at {
+        return;
+    }
+    memory::write_bytes(window, at, bytes);
+    memory::write_zeros(window, at + bytes.len(), count);
+}
+
+// Writes the modules' data.
+pub fn write_modules(
+    window: &mut [u8],
+    base: PhysAddr,
+    submission: &[u8],
+    layout: Layout,
+    spans: [Span; 16],
+)
+    requires { ⌜ layout .count ≤ moduleLimit ⌝ }
+    ensures { λ _. ⌜ now (window .exit) ≡ written (now (window .entry)) (listed (moduleWrite (base .0) (now (submission .entry)) layout spans) (layout .count)) ⌝ }
+{
+    let mut i = 0;
+    while i < layout.count {
+        let module = layout.modules[i];
+        let span = spans[i];
+        let data = submission::bytes_of(submission, module.data);
+        memory::write_bytes(window, span.start.offset_from(base), data);
+        i += 1;
+    }
+}
