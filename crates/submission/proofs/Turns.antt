@@ -4,17 +4,15 @@
 -- Assumes nothing.
 use mathlib.Core.Path.{_≡_, ap, sym, _∙_}
 use mathlib.Core.Bool.{Bool, true}
-use mathlib.Core.List.{List, [], _∷_, append-assoc}
-use Prim.Native.Nat.{ℕ, suc, _+_, _-_, _<_}
+use mathlib.Core.List.{List}
+use Prim.Native.Nat.{ℕ, _+_, _<_}
 use native.Mathlib.Nat.{zero-add}
-use native.Mathlib.Numerals.{add-one}
-use native.Mathlib.Omega.{arith}
-use lib.ListN.{set, replicate}
-use lib.Seq.{set-at}
+use lib.ListN.{set}
 use Rattle.laws.specs.Tests.{allFrom}
 use Rattle.laws.specs.TestLaws.{all-more}
-use Rattle.submission.specs.Format.{entryOf, dataStart, moduleFrom, moduleOf, modulesOf, moduleLimit, noModule, moduleTable}
-use Rattle.submission.specs.FormatLaws.{data-behind-string, length-modulesOf}
+use Rattle.laws.specs.TableLaws.{table-more}
+use Rattle.submission.specs.Format.{entryOf, dataStart, moduleFrom, moduleOf, moduleLimit, noModule, moduleTable}
+use Rattle.submission.specs.FormatLaws.{data-behind-string}
 use Rattle.submission.specs.declared.read.Entry.{Entry}
 use Rattle.submission.specs.declared.Module.{Module}
 
@@ -27,13 +25,7 @@ module _ (s : List ℕ) (i at : ℕ) (e : Entry) (r : Module) (d : at ≡ dataSt
   read-module = p ∙ ap (λ (a : ℕ). moduleFrom a e) d ∙ ap (moduleFrom (dataStart s i)) q
 
   pub modules-more : (ms : List Module) → ms ≡ moduleTable s i → i < moduleLimit → set ms i r ≡ moduleTable s (i + 1)
-  unfolding modulesOf
-  modules-more ms h l =
-      let n = moduleLimit - suc i in
-      let k : moduleLimit - i ≡ suc n = omega arith in
-      rw (h, read-module, k, add-one)
-      (set-at (modulesOf s i) noModule (replicate n noModule) (moduleOf s i) i (length-modulesOf s i)
-      ∙ sym (append-assoc (modulesOf s i) (moduleOf s i ∷ []) (replicate n noModule)))
+  modules-more ms h l = rw (h, read-module) (table-more (moduleOf s) moduleLimit noModule i l)
 
   pub next-data : r .string .at + r .string .len ≡ dataStart s (i + 1)
   next-data = ap (λ (m : Module). m .string .at + m .string .len) read-module ∙ sym (data-behind-string s i)

@@ -4,12 +4,13 @@
 --     imageStart, lineStart, dataStart, stringStart            the parts, one behind the other, by exact whole numbers
 --     partsEnd                                                 where the last part ends
 --     layoutOf, noLayout                                       all parts by offset and length, and none
---     bytesOf                                                  the bytes of a part
+--     moduleNo, bytesOf                                        the module of an index, and the bytes of a part
 -- A field that runs past the end of the submission reads zeros there.
 -- Assumes nothing.
-use mathlib.Core.List.{List, [], _∷_, _++_}
-use Prim.Native.Nat.{ℕ, zero, suc, _+_, _*_, _-_}
-use lib.ListN.{take, drop, replicate}
+use mathlib.Core.List.{List, [], _∷_}
+use Prim.Native.Nat.{ℕ, zero, suc, _+_, _*_}
+use lib.ListN.{getD, take, drop, replicate}
+use Rattle.laws.specs.Table.{table}
 use Rattle.number.specs.Number.{numberAt}
 use Rattle.submission.specs.declared.read.Entry.{Entry}
 use Rattle.submission.specs.declared.Part.{Part}
@@ -91,11 +92,6 @@ moduleFrom at e = record { «data» = record { at = at; len = e .bytes }; string
 abbrev pub moduleOf : List ℕ → ℕ → Module
 moduleOf s i = moduleFrom (dataStart s i) (entryOf s i)
 
--- the first n modules
-unfoldable pub modulesOf : List ℕ → ℕ → List Module
-modulesOf s zero = []
-modulesOf s (suc n) = modulesOf s n ++ (moduleOf s n ∷ [])
-
 -- at most so many modules
 abbrev pub moduleLimit : ℕ
 moduleLimit = 16
@@ -106,12 +102,16 @@ noPart = record { at = 0; len = 0 }
 abbrev pub noModule : Module
 noModule = record { «data» = noPart; string = noPart }
 
--- the modules, and zeros past the last
+-- the first n modules, and zeros past the last
 abbrev pub moduleTable : List ℕ → ℕ → List Module
-moduleTable s n = modulesOf s n ++ replicate (moduleLimit - n) noModule
+moduleTable s n = table (moduleOf s) n moduleLimit noModule
 
 unfoldable pub layoutOf : List ℕ → Layout
 layoutOf s = record { image = imageOf s; line = lineOf s; modules = moduleTable s (moduleCount s); count = moduleCount s }
+
+-- the module of an index
+abbrev pub moduleNo : Layout → ℕ → Module
+moduleNo l i = getD (l .modules) i noModule
 
 unfoldable pub noLayout : Layout
 noLayout = record { image = noPart; line = noPart; modules = replicate moduleLimit noModule; count = 0 }

@@ -5,22 +5,17 @@
 --     layout-image, layout-line, layout-count                                          the fields of the layout
 --     length-modules, module-at, module-past                                           its table of modules
 -- Assumes nothing.
-use mathlib.Core.Path.{_≡_, refl, ap, _∙_}
+use mathlib.Core.Path.{_≡_, refl, ap}
 use mathlib.Core.Logic.{⊎-elim}
-use mathlib.Core.List.{List, [], _∷_}
-use Prim.Native.Nat.{ℕ, zero, suc, _+_, _-_, _≤_, _<_}
+use mathlib.Core.List.{List}
+use Prim.Native.Nat.{ℕ, zero, suc, _+_, _≤_, _<_}
 use native.Mathlib.Nat.{eq-or-lt-of-le, le-of-suc-le-suc}
 use native.Mathlib.Numerals.{add-one}
 use native.Mathlib.Omega.{arith}
-use lib.ListN.{length, getD, replicate, length-append, length-replicate, length-take, length-drop, List·getD-append}
-use lib.Seq.{getD-append-add, getD-at}
-use Rattle.submission.specs.Format.{moduleCount, imageLength, lineLength, dataLength, stringLength, imageStart, lineStart, dataStart, stringStart, imageOf, lineOf, moduleOf, modulesOf, moduleLimit, noModule, moduleTable, layoutOf, bytesOf}
+use lib.ListN.{length, length-take, length-drop}
+use Rattle.laws.specs.TableLaws.{length-table, table-at, table-past}
+use Rattle.submission.specs.Format.{moduleCount, imageLength, lineLength, dataLength, stringLength, imageStart, lineStart, dataStart, stringStart, imageOf, lineOf, moduleOf, moduleLimit, noModule, layoutOf, moduleNo, bytesOf}
 use Rattle.submission.specs.declared.Part.{Part}
-
-getD-none : (n i : ℕ) → getD (replicate n noModule) i noModule ≡ noModule
-getD-none zero i = refl
-getD-none (suc n) zero = refl
-getD-none (suc n) (suc i) = getD-none n i
 
 module _ (s : List ℕ) where
   pub line-behind-image : lineStart s ≡ imageStart s + imageLength s
@@ -48,20 +43,6 @@ module _ (s : List ℕ) where
       (λ l. omega (arith, data-order i j (le-of-suc-le-suc l), rw add-one at (data-behind-string j)))
       (eq-or-lt-of-le h)
 
-  pub length-modulesOf : (n : ℕ) → length (modulesOf s n) ≡ n
-  unfolding modulesOf
-  length-modulesOf zero = refl
-  length-modulesOf (suc n) = length-append (modulesOf s n) (moduleOf s n ∷ []) ∙ omega (arith, length-modulesOf n)
-
-  getD-modulesOf : (n i : ℕ) → i < n → getD (modulesOf s n) i noModule ≡ moduleOf s i
-  unfolding modulesOf
-  getD-modulesOf zero i h = absurd (omega arith)
-  getD-modulesOf (suc n) i h =
-      ⊎-elim
-      (λ q. rw q (getD-at (modulesOf s n) (moduleOf s n) [] noModule n (length-modulesOf n)))
-      (λ l. List·getD-append (modulesOf s n) (moduleOf s n ∷ []) noModule i (rw length-modulesOf l) ∙ getD-modulesOf n i l)
-      (eq-or-lt-of-le (le-of-suc-le-suc h))
-
   pub layout-image : layoutOf s .image ≡ imageOf s
   unfolding layoutOf
   layout-image = refl
@@ -80,20 +61,12 @@ module _ (s : List ℕ) where
   -- the table has room for `moduleLimit` modules
   pub length-modules : moduleCount s ≤ moduleLimit → length (layoutOf s .modules) ≡ moduleLimit
   unfolding layoutOf
-  length-modules h =
-      length-append (modulesOf s (moduleCount s)) (replicate (moduleLimit - moduleCount s) noModule)
-      ∙ omega (arith, length-modulesOf (moduleCount s), length-replicate (moduleLimit - moduleCount s) noModule)
+  length-modules h = length-table (moduleOf s) moduleLimit noModule (moduleCount s) h
 
-  pub module-at : (i : ℕ) → i < moduleCount s → getD (layoutOf s .modules) i noModule ≡ moduleOf s i
+  pub module-at : (i : ℕ) → i < moduleCount s → moduleNo (layoutOf s) i ≡ moduleOf s i
   unfolding layoutOf
-  module-at i h =
-      List·getD-append (modulesOf s (moduleCount s)) (replicate (moduleLimit - moduleCount s) noModule) noModule i (rw length-modulesOf h)
-      ∙ getD-modulesOf (moduleCount s) i h
+  module-at i h = table-at (moduleOf s) moduleLimit noModule (moduleCount s) i h
 
-  pub module-past : (i : ℕ) → moduleCount s ≤ i → getD (layoutOf s .modules) i noModule ≡ noModule
+  pub module-past : (i : ℕ) → moduleCount s ≤ i → moduleNo (layoutOf s) i ≡ noModule
   unfolding layoutOf
-  module-past i h =
-      let e : i ≡ length (modulesOf s (moduleCount s)) + (i - moduleCount s) = omega (arith, length-modulesOf (moduleCount s)) in
-      ap (λ (j : ℕ). getD (moduleTable s (moduleCount s)) j noModule) e
-      ∙ getD-append-add (modulesOf s (moduleCount s)) (replicate (moduleLimit - moduleCount s) noModule) (i - moduleCount s) noModule
-      ∙ getD-none (moduleLimit - moduleCount s) (i - moduleCount s)
+  module-past i h = table-past (moduleOf s) moduleLimit noModule (moduleCount s) i h

@@ -6,7 +6,8 @@ use mathlib.Core.List.{List}
 use Prim.Native.Nat.{ℕ, _+_, _*_, _-_, _^_, _≤_}
 use native.Mathlib.Omega.{arith}
 use borrow.Author.Needs.{needs}
-use Rattle.submission.specs.Format.{moduleCount, imageLength, lineLength, entryAt, dataStart, modulesOf, moduleTable, layoutOf, noLayout}
+use Rattle.laws.specs.Table.{listed}
+use Rattle.submission.specs.Format.{moduleCount, imageLength, lineLength, entryAt, dataStart, moduleTable, layoutOf, noLayout}
 use Rattle.submission.specs.declared.Module.{Module}
 use Rattle.submission.specs.declared.Layout.{Layout}
 use Rattle.submission.proofs.Turns.{modules-more, next-data}
@@ -51,7 +52,7 @@ add-at : tie.Need-add-at Inv-loop μ-loop
 add-at c = search needs
 
 loop-holds : tie.Need-loop-holds Inv-loop μ-loop
-unfolding dataStart modulesOf noLayout
+unfolding dataStart listed noLayout
 loop-holds c = (search needs, ap (λ (l : Layout). l .modules) (c .before .before .no-layout .ensures), cc, search needs)
 
 read-entry-requires : tie.Need-read-entry-requires Inv-loop μ-loop
