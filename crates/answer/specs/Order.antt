@@ -2,7 +2,8 @@
 --     refuses                  every check of a chain has a refusal for its answer
 --     chain-append             where a stage does not refuse, the next one decides
 --     or-else-first, -second, -assoc, -same, -load    laws of the first of two answers that refuses
---     passes-is                a stage passes exactly where its answer is a load
+--     passes-is, load-is       a stage passes exactly where its answer is a load; that answer is Load
+--     check-passed             in a chain that ends in a load no check applied
 --     First, numberedFrom      the first check that applies; checks that are numbered one after the other
 --     number-given, number-first    a number is given exactly where its check is the first that applies
 --     none-given, none-applies      0 is given exactly where none applies
@@ -15,7 +16,8 @@ use Prim.Native.Nat.{ℕ, zero, suc, _+_, _≤_, _<_}
 use native.Mathlib.Omega.{arith}
 use borrow.Author.Tests.{eqb-true, not-true}
 use lib.Dec.{eqb}
-use Rattle.laws.specs.Checks.{Check, firstOf, passes}
+use Rattle.laws.specs.Checks.{Check, _gives_, firstOf, passes}
+use Rattle.laws.specs.CheckLaws.{passes-on}
 use Rattle.laws.specs.TestLaws.{and-left, and-right}
 use Rattle.answer.specs.Answer.{numberOf, isLoad, orElse}
 use Rattle.answer.specs.declared.Answer.{Answer}
@@ -84,6 +86,15 @@ passes-is [] n = refl
 passes-is (k ∷ ks) n =
     passes-by (k .applies) (k .answer) (firstOf ks Load) (passes ks) (and-left (not (isLoad (k .answer))) (refuses ks) n)
     (passes-is ks (and-right (not (isLoad (k .answer))) (refuses ks) n))
+
+pub load-is : (ks : List (Check Answer)) → refuses ks ≡ true → isLoad (firstOf ks Load) ≡ true → firstOf ks Load ≡ Load
+load-is ks n h = passes-on ks Load (sym (passes-is ks n) ∙ h)
+
+-- where a chain ends in a load, no check of it applied
+pub check-passed : (t : Bool) (a : Answer) (ks : List (Check Answer)) → isLoad a ≡ false → firstOf (t gives a ∷ ks) Load ≡ Load → (t ≡ false) × (firstOf ks Load ≡ Load)
+unfolding firstOf
+check-passed true a ks n e = let z : isLoad a ≡ true = rw e in absurd (false≢true (sym n ∙ z))
+check-passed false a ks n e = (refl, e)
 
 -- whether the check of the index k applies
 abbrev pub appliesAt : List (Check Answer) → ℕ → Bool

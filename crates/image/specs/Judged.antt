@@ -4,7 +4,8 @@
 --                                            the conditions of 7 to 14
 --     headerChecks, loadChecks               the checks on the header, 6 to 10, and on the load, 11 to 14
 --     imageChecks                            both, in order
---     noSegment, noKernel                    zeros
+--     segmentLimit, noSegment, noKernel      the most segments, and zeros
+--     segmentNo                              the segment of an index
 --     segmentAt, kernelAt, kernelOf          the kernel that an image asks for
 --     refused, withKernel, judged            the answer, and the kernel beside it
 -- Assumes nothing.
@@ -12,7 +13,7 @@ use mathlib.Core.Bool.{Bool, true, false, cond, not, _&&_, _||_}
 use mathlib.Core.List.{List, [], _∷_, _++_}
 use Prim.Native.Nat.{ℕ, _+_, _-_, _/_, _%_, _^_}
 use lib.Dec.{eqb, leb, ltb}
-use lib.ListN.{length, replicate}
+use lib.ListN.{length, getD, replicate}
 use Rattle.laws.specs.Checks.{Check, _gives_, firstOf}
 use Rattle.answer.specs.Answer.{numberOf}
 use Rattle.answer.specs.declared.Answer.{Answer}
@@ -96,11 +97,18 @@ imageChecks image =
     let offset = loadOffset h o in
     headerChecks image ++ loadChecks h offset (loadLength h offset (length image)) (length image)
 
+-- at most so many segments
+abbrev pub segmentLimit : ℕ
+segmentLimit = 16
+
 abbrev pub noSegment : Segment
 noSegment = record { start = record { 0 = 0 }; loaded = record { 0 = 0 }; end = record { 0 = 0 }; offset = record { 0 = 0 } }
 
 abbrev pub noKernel : Kernel
-noKernel = record { header = record { 0 = 0 }; pages = false; entry = record { 0 = 0 }; segments = replicate 16 noSegment; count = 0 }
+noKernel = record { header = record { 0 = 0 }; pages = false; entry = record { 0 = 0 }; segments = replicate segmentLimit noSegment; count = 0 }
+
+abbrev pub segmentNo : Kernel → ℕ → Segment
+segmentNo k i = getD (k .segments) i noSegment
 
 -- the segment of `len` bytes from `offset` on: from load_addr to the load end, and the bss behind it
 abbrev pub segmentAt : Fields → ℕ → ℕ → Segment
@@ -110,7 +118,7 @@ segmentAt h offset len =
 -- the kernel of a header at o: one segment
 unfoldable pub kernelAt : Fields → Bool → ℕ → ℕ → ℕ → Kernel
 kernelAt h pages o offset len =
-    record { header = record { 0 = o }; pages = pages; entry = h .entry; segments = segmentAt h offset len ∷ replicate 15 noSegment; count = 1 }
+    record { header = record { 0 = o }; pages = pages; entry = h .entry; segments = segmentAt h offset len ∷ replicate (segmentLimit - 1) noSegment; count = 1 }
 
 -- the kernel that an image asks for
 unfoldable pub kernelOf : List ℕ → Kernel

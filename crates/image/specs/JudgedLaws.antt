@@ -1,6 +1,6 @@
 -- What is known of an image that no check refuses, and of the kernel that it asks for.
 --     judged-answer, judged-load, judged-refusal    the parts of the answer for an image
---     passed, not-cut-off                           a check that did not apply
+--     not-cut-off                                   a check that did not apply
 --     segment                                       the kernel's one segment
 --     Accepted, accepted                            where its header, its load bytes and its entry lie
 --     Small, small                                  how large its addresses are
@@ -13,11 +13,13 @@ use native.Mathlib.Omega.{arith}
 use borrow.Author.Tests.{ltb-false, leb-false}
 use lib.Dec.{eqb, leb, ltb}
 use lib.ListN.{length, getD, replicate}
-use Rattle.laws.specs.Checks.{Check, _gives_, firstOf}
+use Rattle.laws.specs.Checks.{firstOf}
 use Rattle.laws.specs.TestLaws.{or-none-left, or-none-right}
 use Rattle.number.specs.Number.{numberAt}
 use Rattle.number.specs.NumberLaws.{Bytes, bytes-drop, number-bound}
+use Rattle.laws.specs.TableLaws.{replicate-at}
 use Rattle.answer.specs.Answer.{numberOf}
+use Rattle.answer.specs.Order.{check-passed}
 use Rattle.answer.specs.declared.Answer.{Answer}
 use Rattle.answer.specs.declared.Answer.the-variants.{Load, NoHeader, UnknownRequest, NoAddressFields, HeaderCutOff, LoadBeforeImage, NothingToLoad, LoadPastImage, BssBelowLoadEnd, EntryOutsideLoad}
 use Rattle.image.specs.declared.header.Search.{Search}
@@ -27,7 +29,7 @@ use Rattle.image.specs.declared.Segment.{Segment}
 use Rattle.image.specs.declared.Kernel.{Kernel}
 use Rattle.image.specs.Header.{searched, header}
 use Rattle.image.specs.Load.{flagsAt, fieldsAt, wholeLength, onPages, loadOffset, loadLength, loadEnd}
-use Rattle.image.specs.Judged.{noHeader, offsetOf, unknownRequest, noAddresses, cutOff, beforeImage, nothingLeft, pastImage, bssBelow, entryOutside, headerChecks, loadChecks, imageChecks, noSegment, noKernel, kernelAt, kernelOf, withKernel, judged}
+use Rattle.image.specs.Judged.{noHeader, offsetOf, unknownRequest, noAddresses, cutOff, beforeImage, nothingLeft, pastImage, bssBelow, entryOutside, headerChecks, loadChecks, imageChecks, noSegment, segmentNo, noKernel, kernelAt, kernelOf, withKernel, judged}
 
 module _ (image : List ℕ) where
   pub judged-answer : judged image .answer ≡ firstOf (imageChecks image) Load
@@ -43,12 +45,6 @@ module _ (image : List ℕ) where
   pub judged-refusal : eqb (numberOf (firstOf (imageChecks image) Load)) 0 ≡ false → judged image .kernel ≡ noKernel
   unfolding judged withKernel
   judged-refusal e = rw e
-
--- where a chain ends in a load, no check of it applied
-pub passed : (t : Bool) (a : Answer) (ks : List (Check Answer)) → eqb (numberOf a) 0 ≡ false → firstOf (t gives a ∷ ks) Load ≡ Load → (t ≡ false) × (firstOf ks Load ≡ Load)
-unfolding firstOf
-passed true a ks n e = let z : eqb (numberOf a) 0 ≡ true = rw e in absurd (false≢true (sym n ∙ z))
-passed false a ks n e = (refl, e)
 
 -- the conditions of the checks, where they do not hold
 there : (r : Search) → noHeader r ≡ false → r ≡ At (record { 0 = offsetOf r })
@@ -78,7 +74,7 @@ not-outside h end e =
 
 -- the kernel's one segment
 abbrev pub segment : Kernel → Segment
-segment k = getD (k .segments) 0 noSegment
+segment k = segmentNo k 0
 
 pub record Accepted (image : List ℕ) (k : Kernel) : Type 0 where
   -- the header is the one that the search finds, whole with its address fields
@@ -88,21 +84,16 @@ pub record Accepted (image : List ℕ) (k : Kernel) : Type 0 where
   pub pages : k .pages ≡ onPages (flagsAt image (k .header .0))
   -- there is one segment, and zeros past it
   pub one : k .count ≡ 1
-  pub rest : (i : ℕ) → 1 ≤ i → getD (k .segments) i noSegment ≡ noSegment
+  pub rest : (i : ℕ) → 1 ≤ i → segmentNo k i ≡ noSegment
   -- the load bytes lie inside the image, the entry among them, the bss behind them
   pub inside : segment k .offset .0 + (segment k .loaded .0 - segment k .start .0) ≤ length image
   pub low : segment k .start .0 ≤ k .entry .0
   pub high : k .entry .0 < segment k .loaded .0
   pub end : segment k .loaded .0 ≤ segment k .end .0
 
-getD-none : (n i : ℕ) → getD (replicate n noSegment) i noSegment ≡ noSegment
-getD-none zero i = refl
-getD-none (suc n) zero = refl
-getD-none (suc n) (suc i) = getD-none n i
-
 past-first : (s : Segment) (n i : ℕ) → 1 ≤ i → getD (s ∷ replicate n noSegment) i noSegment ≡ noSegment
 past-first s n zero l = absurd (omega arith)
-past-first s n (suc i) l = getD-none n i
+past-first s n (suc i) l = replicate-at n i noSegment
 
 pub accepted : (image : List ℕ) → firstOf (imageChecks image) Load ≡ Load → Accepted image (kernelOf image)
 unfolding imageChecks headerChecks loadChecks kernelOf kernelAt
@@ -111,15 +102,15 @@ accepted image e =
     let h = fieldsAt image o in
     let offset = loadOffset h o in
     let len = loadLength h offset (length image) in
-    let r6 = passed (noHeader (header image)) NoHeader _ refl e in
-    let r7 = passed (unknownRequest (flagsAt image o)) UnknownRequest _ refl (r6 .1) in
-    let r8 = passed (noAddresses (flagsAt image o)) NoAddressFields _ refl (r7 .1) in
-    let r9 = passed (cutOff o (length image)) HeaderCutOff _ refl (r8 .1) in
-    let r10 = passed (beforeImage h o) LoadBeforeImage _ refl (r9 .1) in
-    let r11 = passed (nothingLeft h offset (length image)) NothingToLoad _ refl (r10 .1) in
-    let r12 = passed (pastImage h offset len (length image)) LoadPastImage _ refl (r11 .1) in
-    let r13 = passed (bssBelow h (loadEnd h len)) BssBelowLoadEnd _ refl (r12 .1) in
-    let r14 = passed (entryOutside h (loadEnd h len)) EntryOutsideLoad _ refl (r13 .1) in
+    let r6 = check-passed (noHeader (header image)) NoHeader _ refl e in
+    let r7 = check-passed (unknownRequest (flagsAt image o)) UnknownRequest _ refl (r6 .1) in
+    let r8 = check-passed (noAddresses (flagsAt image o)) NoAddressFields _ refl (r7 .1) in
+    let r9 = check-passed (cutOff o (length image)) HeaderCutOff _ refl (r8 .1) in
+    let r10 = check-passed (beforeImage h o) LoadBeforeImage _ refl (r9 .1) in
+    let r11 = check-passed (nothingLeft h offset (length image)) NothingToLoad _ refl (r10 .1) in
+    let r12 = check-passed (pastImage h offset len (length image)) LoadPastImage _ refl (r11 .1) in
+    let r13 = check-passed (bssBelow h (loadEnd h len)) BssBelowLoadEnd _ refl (r12 .1) in
+    let r14 = check-passed (entryOutside h (loadEnd h len)) EntryOutsideLoad _ refl (r13 .1) in
     let at = not-cut-off o (length image) (r9 .0) in
     let entry = not-outside h (loadEnd h len) (r14 .0) in
     record {

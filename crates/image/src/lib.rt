@@ -16,6 +16,9 @@ mod check;
 pub mod header;
 mod load;
 
+// At most so many segments.
+pub const SEGMENTS: usize = 16;
+
 // A stretch of the kernel: the addresses from start up to `loaded` get the image's bytes from `offset` on, those from
 // `loaded` up to `end` zeros.
 pub struct Segment {
@@ -31,7 +34,7 @@ pub struct Kernel {
     pub header: ImageOffset,
     pub pages: bool,
     pub entry: PhysAddr,
-    pub segments: [Segment; 16],
+    pub segments: [Segment; SEGMENTS],
     pub count: usize,
 }
 
@@ -93,7 +96,7 @@ fn kernel_at(h: Fields, pages: bool, at: ImageOffset, offset: ImageOffset, len: 
     let start = h.load;
     let loaded = load::load_end(h, len);
     let end = load::extent_end(h, loaded);
-    let mut segments = [no_segment(); 16];
+    let mut segments = [no_segment(); SEGMENTS];
     segments[0] = Segment {
         start,
         loaded,
@@ -130,7 +133,7 @@ pub fn no_kernel() -> Kernel
         header: ImageOffset(0),
         pages: false,
         entry: PhysAddr(0),
-        segments: [no_segment(); 16],
+        segments: [no_segment(); SEGMENTS],
         count: 0,
     }
 }

@@ -1,5 +1,6 @@
 -- Laws of little-endian numbers, over the width.
 --     number-bound, number-fits                              how large a number of so many bytes is
+--     length-numberBytes, length-wordBytes, wordBytes-append   the bytes of numbers and of rows of words
 --     number-written                                         reading back what was written gives the number
 --     numberAt-before, numberAt-inside, numberAt-behind      a read before, inside and behind a patched part
 --     word-at                                                reading back one of a row of words
@@ -68,6 +69,12 @@ pub length-wordBytes : (ws : List ℕ) → length (wordBytes ws) ≡ 4 * length 
 unfolding wordBytes
 length-wordBytes [] = refl
 length-wordBytes (x ∷ ws) = length-append (numberBytes 4 x) (wordBytes ws) ∙ omega (arith, length-numberBytes 4 x, length-wordBytes ws)
+
+-- the bytes of two rows of words
+pub wordBytes-append : (ws vs : List ℕ) → wordBytes (ws ++ vs) ≡ wordBytes ws ++ wordBytes vs
+unfolding wordBytes
+wordBytes-append [] vs = refl
+wordBytes-append (x ∷ ws) vs = rw (wordBytes-append ws vs, append-assoc) refl
 
 -- reading back what was written gives the number, whatever stands behind it
 pub number-written : (w n : ℕ) (t : List ℕ) → n < 2 ^ (8 * w) → number w (numberBytes w n ++ t) ≡ n
