@@ -39,7 +39,7 @@ use Rattle.board.specs.declared.Board.{Board}
 use Rattle.board.specs.Window.{windowChecks, windowSpan}
 use Rattle.board.specs.WindowLaws.{window-fits}
 use Rattle.memory_map.specs.declared.parse.Parsed.{Parsed as ParsedMap}
-use Rattle.memory_map.specs.Pairs.{mapChecks, badMap, listed, mapOf}
+use Rattle.memory_map.specs.Pairs.{mapChecks, badMap, firstPairs, mapOf}
 use Rattle.memory_map.specs.Pairs.{parsed as parsedMap}
 use Rattle.memory_map.specs.PairsLaws.{good-map, load-good, parsed-good}
 use Rattle.image.specs.declared.Judged.{Judged}
@@ -176,7 +176,7 @@ module _ (x : Lent) (p : Passed x) where
       omega (arith, b, good-map (x .map) (p .map) .short)
 
   pub prepared : Prepared (boardIn x) (kernelIn x) (layoutIn x) (blockIn x)
-  unfolding listed
+  unfolding firstPairs
   prepared =
       record {
         checked = record { pairs = good-map (x .map) (p .map) .few; top = p .window };

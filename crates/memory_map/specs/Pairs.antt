@@ -1,31 +1,30 @@
 -- The pairs of a lent memory map, and the check that it passes.     rules: check 5; "Memory: usable and open", the pairs
---     maxBytes, maxPairs, minSize     the limits of a map
+--     maxBytes, minSize               the limits of a map, beside that of its pairs
 --     sizeField, baseAt, lengthAt, kindAt    where the fields of a pair stand
 --     pairAt, pairCount               where each pair begins, and how many there are
---     pairOf, pairsOf, mapOf          the pairs read
+--     pairOf, firstPairs, mapOf       the pairs read
 --     badMap, mapChecks               when a map is refused, as one test and as a check of the order
 --     noMap, parsed                   what reading a map answers
 -- Assumes nothing.
 use mathlib.Core.Bool.{Bool, cond, _||_}
-use mathlib.Core.List.{List, [], _∷_, _++_}
-use Prim.Native.Nat.{ℕ, zero, suc, _+_, _-_}
+use mathlib.Core.List.{List, [], _∷_}
+use Prim.Native.Nat.{ℕ, zero, suc, _+_}
 use lib.Dec.{ltb, eqb}
 use lib.ListN.{length, replicate}
 use Rattle.number.specs.Number.{numberAt}
 use Rattle.laws.specs.Tests.{any, run}
+use Rattle.laws.specs.Table.{table}
 use Rattle.laws.specs.Checks.{Check, _gives_, firstOf}
 use Rattle.answer.specs.declared.Answer.{Answer}
 use Rattle.answer.specs.declared.Answer.the-variants.{Load, BadMemoryMap}
 use Rattle.memory_map.specs.declared.Pair.{Pair}
 use Rattle.memory_map.specs.declared.MemMap.{MemMap}
 use Rattle.memory_map.specs.declared.parse.Parsed.{Parsed}
+use Rattle.memory_map.specs.Usable.{maxPairs, noPair}
 
--- the most bytes, the most pairs, and the least size
+-- the most bytes, and the least size
 abbrev pub maxBytes : ℕ
 maxBytes = 4096
-
-abbrev pub maxPairs : ℕ
-maxPairs = 32
 
 abbrev pub minSize : ℕ
 minSize = 20
@@ -82,9 +81,6 @@ badMap m =
 unfoldable pub mapChecks : List ℕ → List (Check Answer)
 mapChecks m = (badMap m gives BadMemoryMap) ∷ []
 
-abbrev pub noPair : Pair
-noPair = record { base = 0; length = 0; kind = 0 }
-
 -- the pair at an offset
 unfoldable pub pairOf : List ℕ → ℕ → Pair
 pairOf m at = record {
@@ -93,18 +89,13 @@ pairOf m at = record {
   kind = numberAt 4 m (at + kindAt);
 }
 
--- the first n pairs
-unfoldable pub pairsOf : List ℕ → ℕ → List Pair
-pairsOf m zero = []
-pairsOf m (suc n) = pairsOf m n ++ (pairOf m (pairAt m n) ∷ [])
-
 -- the first n pairs as a map, with zeros past the last
-unfoldable pub listed : List ℕ → ℕ → MemMap
-listed m n = record { pairs = pairsOf m n ++ replicate (maxPairs - n) noPair; count = n }
+unfoldable pub firstPairs : List ℕ → ℕ → MemMap
+firstPairs m n = record { pairs = table (λ i. pairOf m (pairAt m i)) n maxPairs noPair; count = n }
 
 -- the pairs of a map
 abbrev pub mapOf : List ℕ → MemMap
-mapOf m = listed m (pairCount m)
+mapOf m = firstPairs m (pairCount m)
 
 -- the map of a refusal
 abbrev pub noMap : MemMap

@@ -5,31 +5,32 @@
 --     broken-bad, empty-bad, long-bad, many-bad           what refuses a map
 --     map-good, good-map, good-some, good-fills           a map is accepted exactly where it keeps all its rules
 --     parsed-bad, parsed-good, load-good                  what reading a map answers
---     listed-at, listed-past, length-listed               which pair stands at which index
---     pair-fits, listed-fits                              the ranges of a pair's fields
+--     pair-listed, pair-past, length-pairs                which pair stands at which index
+--     pair-fits, pairs-fit                                the ranges of a pair's fields
 --     parsed-count, parsed-length, parsed-fits            the same of what reading a map gives, refused or not
 -- Assumes nothing.
 use mathlib.Core.Path.{_≡_, refl, ap, sym, _∙_}
 use mathlib.Core.Bool.{true, false, _||_, false≢true}
-use mathlib.Core.List.{List, [], _∷_}
+use mathlib.Core.List.{List}
 use mathlib.Core.Logic.{⊎-elim}
 use Prim.Native.Nat.{ℕ, zero, suc, _+_, _-_, _^_, _≤_, _<_}
 use native.Mathlib.Nat.{zero-add, eq-or-lt-of-le, le-of-suc-le-suc}
 use native.Mathlib.Numerals.{add-one}
 use native.Mathlib.Omega.{arith}
 use lib.Dec.{ltb, eqb}
-use lib.ListN.{length, getD, replicate, length-append, length-replicate, List·getD-append}
-use lib.Seq.{getD-at, getD-append-add}
+use lib.ListN.{length}
 use borrow.Author.Tests.{lt-ltb, le-ltb, ltb-true, ltb-false, eqb-false}
 use Rattle.laws.specs.Tests.{any}
 use Rattle.laws.specs.TestLaws.{Run, run-says, any-here, any-none, none-any, or-cases, or-none-left, or-none-right, lt-or-le, true-or-false}
+use Rattle.laws.specs.TableLaws.{length-table, table-at, table-past, replicate-at}
 use Rattle.laws.specs.Checks.{firstOf}
 use Rattle.laws.specs.CheckLaws.{chain}
 use Rattle.answer.specs.declared.Answer.the-variants.{Load, BadMemoryMap}
 use Rattle.answer.specs.Answer.{numberOf}
 use Rattle.number.specs.NumberLaws.{Bytes, bytes-drop, number-bound}
 use Rattle.memory_map.specs.declared.Pair.{Pair}
-use Rattle.memory_map.specs.Pairs.{maxBytes, maxPairs, minSize, baseAt, lengthAt, kindAt, sizeAt, nextAt, pairAt, begins, pairCount, small, past, badMap, mapChecks, noPair, pairOf, pairsOf, listed, mapOf, noMap, parsed}
+use Rattle.memory_map.specs.Pairs.{maxBytes, minSize, baseAt, lengthAt, kindAt, sizeAt, nextAt, pairAt, begins, pairCount, small, past, badMap, mapChecks, pairOf, firstPairs, mapOf, noMap, parsed}
+use Rattle.memory_map.specs.Usable.{maxPairs, noPair, pairNo}
 
 -- the first n pairs keep their rules: none is too small, and none runs past the end
 pub record Whole (m : List ℕ) (n : ℕ) : Type 0 where
@@ -45,11 +46,6 @@ pub record GoodMap (m : List ℕ) : Type 0 where
 
 pub whole-zero : (m : List ℕ) → Whole m 0
 whole-zero m = record { large = λ i l. absurd (omega arith); within = λ i l. absurd (omega arith) }
-
-pub length-pairsOf : (m : List ℕ) (n : ℕ) → length (pairsOf m n) ≡ n
-unfolding pairsOf
-length-pairsOf m zero = refl
-length-pairsOf m (suc n) = length-append (pairsOf m n) (pairOf m (pairAt m n) ∷ []) ∙ omega (arith, length-pairsOf m n)
 
 module _ (m : List ℕ) where
   -- a pair begins past the one before it
@@ -210,38 +206,21 @@ module _ (m : List ℕ) where
       let h : pairAt m (pairCount m) ≤ length m = rw e at (good-map t .whole .within (pairCount m - 1) (omega arith)) in
       omega (arith, count-end)
 
-no-pairs : (k i : ℕ) → getD (replicate k noPair) i noPair ≡ noPair
-no-pairs zero i = refl
-no-pairs (suc k) zero = refl
-no-pairs (suc k) (suc i) = no-pairs k i
-
-pairs-at : (m : List ℕ) (n i : ℕ) → i < n → getD (pairsOf m n) i noPair ≡ pairOf m (pairAt m i)
-unfolding pairsOf
-pairs-at m zero i l = absurd (omega arith)
-pairs-at m (suc n) i l =
-    ⊎-elim
-    (λ (q : i ≡ n). rw q (getD-at (pairsOf m n) (pairOf m (pairAt m n)) [] noPair n (length-pairsOf m n)))
-    (λ (u : i < n). List·getD-append (pairsOf m n) (pairOf m (pairAt m n) ∷ []) noPair i (omega (arith, length-pairsOf m n)) ∙ pairs-at m n i u)
-    (eq-or-lt-of-le (le-of-suc-le-suc l))
-
 -- the entries of a map of n pairs
 module _ (m : List ℕ) (n : ℕ) where
   -- the pair of an index stands where the steps before it lead
-  pub listed-at : (i : ℕ) → i < n → getD (listed m n .pairs) i noPair ≡ pairOf m (pairAt m i)
-  unfolding listed
-  listed-at i l =
-      List·getD-append (pairsOf m n) (replicate (maxPairs - n) noPair) noPair i (omega (arith, length-pairsOf m n)) ∙ pairs-at m n i l
+  pub pair-listed : (i : ℕ) → i < n → pairNo (firstPairs m n) i ≡ pairOf m (pairAt m i)
+  unfolding firstPairs
+  pair-listed i l = table-at (λ j. pairOf m (pairAt m j)) maxPairs noPair n i l
 
   -- past the last the entries are zero
-  pub listed-past : (i : ℕ) → n ≤ i → getD (listed m n .pairs) i noPair ≡ noPair
-  unfolding listed
-  listed-past i l =
-      let e : i ≡ length (pairsOf m n) + (i - n) = omega (arith, length-pairsOf m n) in
-      rw (e, getD-append-add) (no-pairs (maxPairs - n) (i - n))
+  pub pair-past : (i : ℕ) → n ≤ i → pairNo (firstPairs m n) i ≡ noPair
+  unfolding firstPairs
+  pair-past i l = table-past (λ j. pairOf m (pairAt m j)) maxPairs noPair n i l
 
-  pub length-listed : n ≤ maxPairs → length (listed m n .pairs) ≡ maxPairs
-  unfolding listed
-  length-listed l = simp (length-append, length-pairsOf, length-replicate) (omega arith)
+  pub length-pairs : n ≤ maxPairs → length (firstPairs m n .pairs) ≡ maxPairs
+  unfolding firstPairs
+  length-pairs l = length-table (λ j. pairOf m (pairAt m j)) maxPairs noPair n l
 
 -- the ranges of a pair's fields
 pub record PairFits (p : Pair) : Type 0 where
@@ -257,28 +236,28 @@ pair-fits m b at = record {
   kind = number-bound 4 _ (bytes-drop (at + kindAt) m b);
 }
 
-pub listed-fits : (m : List ℕ) → Bytes m → (n i : ℕ) → PairFits (getD (listed m n .pairs) i noPair)
-listed-fits m b n i =
+pub pairs-fit : (m : List ℕ) → Bytes m → (n i : ℕ) → PairFits (pairNo (firstPairs m n) i)
+pairs-fit m b n i =
     ⊎-elim
-    (λ (l : i < n). rw (listed-at m n i l) (pair-fits m b (pairAt m i)))
-    (λ (l : n ≤ i). rw (listed-past m n i l) (record { base = omega arith; length = omega arith; kind = omega arith }))
+    (λ (l : i < n). rw (pair-listed m n i l) (pair-fits m b (pairAt m i)))
+    (λ (l : n ≤ i). rw (pair-past m n i l) (record { base = omega arith; length = omega arith; kind = omega arith }))
     (lt-or-le i n)
 
 -- what reading a map gives, refused or not
 module _ (m : List ℕ) where
   pub parsed-count : parsed m .map .count ≤ maxPairs
-  unfolding parsed listed
+  unfolding parsed firstPairs
   parsed-count = ⊎-elim (λ (t : badMap m ≡ true). rw t (omega arith)) (λ (t : badMap m ≡ false). rw t (good-map m t .few)) (true-or-false (badMap m))
 
   pub parsed-length : length (parsed m .map .pairs) ≡ maxPairs
   unfolding parsed
   parsed-length =
-      ⊎-elim (λ (t : badMap m ≡ true). rw t refl) (λ (t : badMap m ≡ false). rw t (length-listed m (pairCount m) (good-map m t .few))) (true-or-false (badMap m))
+      ⊎-elim (λ (t : badMap m ≡ true). rw t refl) (λ (t : badMap m ≡ false). rw t (length-pairs m (pairCount m) (good-map m t .few))) (true-or-false (badMap m))
 
-  pub parsed-fits : Bytes m → (i : ℕ) → PairFits (getD (parsed m .map .pairs) i noPair)
+  pub parsed-fits : Bytes m → (i : ℕ) → PairFits (pairNo (parsed m .map) i)
   unfolding parsed
   parsed-fits b i =
       ⊎-elim
-      (λ (t : badMap m ≡ true). rw (t, no-pairs maxPairs i) (record { base = omega arith; length = omega arith; kind = omega arith }))
-      (λ (t : badMap m ≡ false). rw t (listed-fits m b (pairCount m) i))
+      (λ (t : badMap m ≡ true). rw (t, replicate-at maxPairs i noPair) (record { base = omega arith; length = omega arith; kind = omega arith }))
+      (λ (t : badMap m ≡ false). rw t (pairs-fit m b (pairCount m) i))
       (true-or-false (badMap m))

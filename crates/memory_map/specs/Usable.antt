@@ -1,5 +1,6 @@
 -- Which addresses are usable.                                              rule: "Memory: usable and open", usable
 --     ram, limit, maxPairs    the type of usable memory, where usable addresses end, and how many pairs a map has at most
+--     noPair, pairNo          a pair of zeros, and the pair of an index
 --     covers                  the pair covers the address
 --     usableAt                the address is usable
 -- Assumes nothing.
@@ -21,9 +22,12 @@ limit = 2 ^ 32
 abbrev pub maxPairs : ℕ
 maxPairs = 32
 
+abbrev pub noPair : Pair
+noPair = record { base = 0; length = 0; kind = 0 }
+
 -- the pair of the index i
 abbrev pub pairNo : MemMap → ℕ → Pair
-pairNo m i = getD (m .pairs) i (record { base = 0; length = 0; kind = 0 })
+pairNo m i = getD (m .pairs) i noPair
 
 -- a pair covers the addresses from its base up to but not including base + length, an exact whole number
 unfoldable pub covers : Pair → ℕ → Bool

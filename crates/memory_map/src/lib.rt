@@ -3,6 +3,9 @@ pub mod parse;
 pub mod sizes;
 pub mod usable;
 
+// At most so many pairs.
+pub const PAIRS: usize = 32;
+
 // A stretch of memory: the addresses from base on, as many as length says, of one type.
 pub struct Pair {
     pub base: u64,
@@ -12,6 +15,6 @@ pub struct Pair {
 
 // The pairs of a map; past the last the entries are zero.
 pub struct MemMap {
-    pub pairs: [Pair; 32],
+    pub pairs: [Pair; PAIRS],
     pub count: usize,
 }

@@ -1,5 +1,6 @@
 // Reading a lent memory map: check 5, and its pairs.
 use crate::MemMap;
+use crate::PAIRS;
 use crate::Pair;
 use answer::Answer;
 ghost use mathlib.Core.Path.{_≡_};
@@ -8,10 +9,8 @@ ghost use Prim.Native.Nat.{_+_, _≤_};
 ghost use lib.ListN.{length};
 ghost use Rattle.memory_map.specs.Pairs.{kindAt, pairOf, small, past, parsed, noMap};
 
-// The limits of a map.
+// The limits of a map, beside that of its pairs.
 const MAX_BYTES: usize = 4096;
-
-const MAX_PAIRS: usize = 32;
 
 const MIN_SIZE: usize = 20;
 
@@ -44,11 +43,11 @@ pub fn parse(m: &[u8]) -> Parsed
         base: 0,
         length: 0,
         kind: 0,
-    }; MAX_PAIRS];
+    }; PAIRS];
     let mut count = 0;
     let mut at = 0;
     while at < m.len() {
-        if count == MAX_PAIRS {
+        if count == PAIRS {
             return refused();
         }
         if broken(m, at) {
@@ -104,7 +103,7 @@ fn refused() -> Parsed
                 base: 0,
                 length: 0,
                 kind: 0,
-            }; MAX_PAIRS],
+            }; PAIRS],
             count: 0,
         },
     }

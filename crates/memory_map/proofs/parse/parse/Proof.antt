@@ -2,16 +2,18 @@
 -- Assumes nothing.
 use mathlib.Core.Path.{_≡_, refl, sym, _∙_}
 use mathlib.Core.Bool.{true, false, _||_}
-use mathlib.Core.List.{List, [], _∷_, _++_, append-assoc}
-use Prim.Native.Nat.{ℕ, suc, _+_, _-_, _≤_, _<_}
+use mathlib.Core.List.{List}
+use Prim.Native.Nat.{ℕ, _+_, _-_, _≤_, _<_}
 use native.Mathlib.Numerals.{add-one}
 use native.Mathlib.Omega.{arith}
 use lib.ListN.{length, set, replicate}
-use lib.Seq.{set-at}
+use Rattle.laws.specs.Table.{listed, table}
+use Rattle.laws.specs.TableLaws.{table-more}
 use Rattle.answer.specs.declared.Answer.the-variants.{Load}
 use Rattle.memory_map.specs.declared.Pair.{Pair}
-use Rattle.memory_map.specs.Pairs.{maxBytes, maxPairs, minSize, sizeField, noPair, sizeAt, nextAt, pairAt, pairCount, pairOf, pairsOf, small, past, badMap, listed, parsed}
-use Rattle.memory_map.specs.PairsLaws.{Whole, whole-zero, whole-more, whole-all, unbroken, length-pairsOf, map-good, empty-bad, long-bad, many-bad, broken-bad, parsed-bad, parsed-good}
+use Rattle.memory_map.specs.Usable.{maxPairs, noPair}
+use Rattle.memory_map.specs.Pairs.{maxBytes, minSize, sizeField, sizeAt, nextAt, pairAt, pairCount, pairOf, small, past, badMap, firstPairs, parsed}
+use Rattle.memory_map.specs.PairsLaws.{Whole, whole-zero, whole-more, whole-all, unbroken, map-good, empty-bad, long-bad, many-bad, broken-bad, parsed-bad, parsed-good}
 use borrow.Author.Needs.{needs}
 use Rattle.memory_map.proofs.parse.parse.Statement.{statement}
 use Rattle.memory_map.proofs.parse.parse.Tie as tie
@@ -21,17 +23,11 @@ record Reading (m : List ℕ) (pairs : List Pair) (n at : ℕ) : Type 0 where
   inside : at ≤ length m
   few : n ≤ maxPairs
   place : at ≡ pairAt m n
-  read : pairs ≡ pairsOf m n ++ replicate (maxPairs - n) noPair
+  read : pairs ≡ table (λ i. pairOf m (pairAt m i)) n maxPairs noPair
   whole : Whole m n
 
--- a list filled to n, with one value more
-slot : (xs : List Pair) (k n : ℕ) (z v : Pair) → length xs ≡ n → n < k → set (xs ++ replicate (k - n) z) n v ≡ (xs ++ (v ∷ [])) ++ replicate (k - (n + 1)) z
-slot xs k n z v h l =
-    let e : k - n ≡ suc (k - (n + 1)) = omega arith in
-    rw e (set-at xs z (replicate (k - (n + 1)) z) v n h ∙ sym (append-assoc xs (v ∷ []) (replicate (k - (n + 1)) z)))
-
 none-read : (m : List ℕ) → Reading m (replicate maxPairs noPair) 0 0
-unfolding pairAt pairsOf
+unfolding pairAt listed
 none-read m = record { inside = omega arith; few = omega arith; place = refl; read = refl; whole = whole-zero m }
 
 module _ (m : List ℕ) (pairs : List Pair) (n at : ℕ) (r : Reading m pairs n at) where
@@ -45,7 +41,7 @@ module _ (m : List ℕ) (pairs : List Pair) (n at : ℕ) (r : Reading m pairs n 
   -- one pair more, and where the next would begin
   one-more : (n ≡ maxPairs → ⊥) → small m at || past m at ≡ false
       → (p : Pair) → p ≡ pairOf m at → (next : ℕ) → next ≡ at + (sizeAt m at + sizeField) → Reading m (set pairs n p) (n + 1) next
-  unfolding pairAt pairsOf nextAt
+  unfolding pairAt nextAt
   one-more f t p e next d =
       let u = unbroken m at t in
       let l : n < maxPairs = omega (arith, r .few) in
@@ -53,13 +49,13 @@ module _ (m : List ℕ) (pairs : List Pair) (n at : ℕ) (r : Reading m pairs n 
         inside = omega arith;
         few = omega arith;
         place = rw (add-one, ← r .place) d;
-        read = rw (r .read, e, add-one, ← r .place) (rw add-one at (slot (pairsOf m n) maxPairs n noPair (pairOf m at) (length-pairsOf m n) l));
+        read = rw (r .read, e, r .place) (table-more (λ i. pairOf m (pairAt m i)) maxPairs noPair n l);
         whole = whole-more m n (r .whole) (rw (r .place) at t);
       }
 
   -- no pair is left
   all-read : (length m ≡ 0 → ⊥) → length m ≤ maxBytes → length m ≤ at → record { answer = Load; map = record { pairs = pairs; count = n } } ≡ parsed m
-  unfolding listed
+  unfolding firstPairs
   all-read z k l =
       let e : pairCount m ≡ n = whole-all m n (r .whole) (omega (arith, r .place)) in
       let g : badMap m ≡ false = map-good m (record { some = omega arith; short = k; few = omega (arith, r .few); whole = rw e (r .whole) }) in
