@@ -8,14 +8,17 @@ use lib.ListN.{length, take, drop, length-append}
 use Rattle.memory.specs.Patched.{patched}
 use Rattle.memory.specs.PatchedLaws.{patched-append}
 use Rattle.number.specs.Number.{wordBytes}
-use Rattle.number.specs.NumberLaws.{length-wordBytes}
+use Rattle.laws.specs.TableLaws.{length-listed, listed-more}
+use Rattle.number.specs.NumberLaws.{length-wordBytes, wordBytes-append}
 use Rattle.address.specs.declared.Span.{Span}
+use Rattle.address.specs.Address.{spanNo}
 use Rattle.submission.specs.declared.Layout.{Layout}
+use Rattle.submission.specs.Format.{moduleNo}
 use Rattle.information.specs.declared.Structure.{Structure}
-use Rattle.information.specs.Information.{structureSize, structureWords, loaderName, textSize, mapOffset, stringsOffset, structureAt, partsOf, blockOf, contentsOf, entrySize, addressOf, textBytes, textsSize, entryWords, entries, texts, moduleNo, spanNo, stringLengths}
-use Rattle.information.specs.TextLaws.{length-textBytes, text-some, texts-more, entries-more, length-entries, wordBytes-append}
-use Rattle.information.specs.Writing.{entriesOf, stringsOf, StringsIn}
-use Rattle.information.specs.WritingLaws.{length-entriesOf, entriesOf-more, entryTexts, stringsOf-more, block-is, length-strings}
+use Rattle.information.specs.Information.{structureSize, structureWords, loaderName, textSize, mapOffset, stringsOffset, structureAt, partsOf, blockOf, contentsOf, entrySize, addressOf, textBytes, textsSize, entryWords, entries, texts, stringLengths}
+use Rattle.information.specs.TextLaws.{length-textBytes, text-some, texts-more, entries-more, length-entries}
+use Rattle.information.specs.Writing.{entryNo, entriesOf, stringsOf, StringsIn}
+use Rattle.information.specs.WritingLaws.{entryTexts, block-is, length-strings}
 
 -- a text that is not empty, and its zero
 pub text-written : (w : List ℕ) (at : ℕ) (s u v : List ℕ) → (length s ≡ 0 → ⊥)
@@ -30,7 +33,7 @@ pub string-written : (w : List ℕ) (at : ℕ) (s : List ℕ) (l : Layout) (i ne
     → u ≡ patched w at (texts (stringsOf s l i)) → v ≡ patched u next (textBytes (take n (drop (moduleNo l i .string .at) s)))
     → v ≡ patched w at (texts (stringsOf s l (i + 1)))
 string-written w at s l i next n u v h e d p q =
-    rw (q, p, e, d, ← length-strings s l i h, patched-append, stringsOf-more, texts-more) refl
+    rw (q, p, e, d, ← length-strings s l i h, patched-append, listed-more, texts-more) refl
 
 -- an entry more, behind those written
 pub entry-written : (w : List ℕ) (at : ℕ) (l : Layout) (spans : List Span) (a i next x : ℕ) (u v : List ℕ)
@@ -40,8 +43,8 @@ pub entry-written : (w : List ℕ) (at : ℕ) (l : Layout) (spans : List Span) (
     → v ≡ patched w at (wordBytes (entries a (entriesOf l spans (i + 1))))
 unfolding entryWords
 entry-written w at l spans a i next x u v d f p q =
-    let e : length (wordBytes (entries a (entriesOf l spans i))) ≡ entrySize * i = length-wordBytes (entries a (entriesOf l spans i)) ∙ omega (arith, length-entries (entriesOf l spans i) a, length-entriesOf l spans i) in
-    rw (q, p, f, d, ← e, patched-append, entriesOf-more, entries-more, entryTexts, wordBytes-append) refl
+    let e : length (wordBytes (entries a (entriesOf l spans i))) ≡ entrySize * i = length-wordBytes (entries a (entriesOf l spans i)) ∙ omega (arith, length-entries (entriesOf l spans i) a, length-listed (entryNo l spans) i) in
+    rw (q, p, f, d, ← e, patched-append, listed-more, entries-more, entryTexts, wordBytes-append) refl
 
 -- the entries behind the structure
 pub tables-written : (w : List ℕ) (at : ℕ) (st : Structure) (words es u v : List ℕ)
@@ -72,5 +75,5 @@ pub block-written : (w : List ℕ) (at : ℕ) (s : List ℕ) (l : Layout) (spans
 unfolding structureWords
 block-written w at s l spans m line start lower upper st strings rest u v h a b c d e =
     let words = structureWords st ++ entries strings (entriesOf l spans (l .count)) in
-    let k : length (wordBytes words) ≡ mapOffset (l .count) = length-wordBytes words ∙ omega (arith, length-append (structureWords st) (entries strings (entriesOf l spans (l .count))), length-entries (entriesOf l spans (l .count)) strings, length-entriesOf l spans (l .count)) in
+    let k : length (wordBytes words) ≡ mapOffset (l .count) = length-wordBytes words ∙ omega (arith, length-append (structureWords st) (entries strings (entriesOf l spans (l .count))), length-entries (entriesOf l spans (l .count)) strings, length-listed (entryNo l spans) (l .count)) in
     rw (e, c, ← k, d, patched-append, block-is s l spans m line start lower upper h, a, b) refl

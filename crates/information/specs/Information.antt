@@ -9,12 +9,13 @@
 use mathlib.Core.Path.{_≡_}
 use mathlib.Core.List.{List, [], _∷_, _++_, map}
 use Prim.Native.Nat.{ℕ, zero, suc, _+_, _*_}
-use lib.ListN.{length, getD, take, drop}
+use lib.ListN.{length}
+use Rattle.laws.specs.Table.{listed}
 use Rattle.number.specs.Number.{wordBytes}
 use Rattle.address.specs.declared.Span.{Span}
-use Rattle.submission.specs.declared.Part.{Part}
-use Rattle.submission.specs.declared.Module.{Module}
+use Rattle.address.specs.Address.{spanNo}
 use Rattle.submission.specs.declared.Layout.{Layout}
+use Rattle.submission.specs.Format.{moduleNo, bytesOf}
 use Rattle.information.specs.declared.Structure.{Structure}
 use Rattle.information.specs.declared.size.Offsets.{Offsets}
 
@@ -46,15 +47,12 @@ mapAt = 48
 abbrev pub nameAt : ℕ
 nameAt = 64
 
--- the bytes of the structure and of a module's entry, and how many modules there are at most
+-- the bytes of the structure and of a module's entry
 abbrev pub structureSize : ℕ
 structureSize = 88
 
 abbrev pub entrySize : ℕ
 entrySize = 16
-
-abbrev pub maxModules : ℕ
-maxModules = 16
 
 -- the words of the structure, in order; all but the fields are zero
 unfoldable pub structureWords : Structure → List ℕ
@@ -193,28 +191,17 @@ blockOf c =
     wordBytes (structureWords (structureOf c) ++ entries (stringsAddress c) (map entryOf (c .modules)))
     ++ partsOf (c .map) (c .line) (map stringOf (c .modules))
 
--- a part of a submission
-abbrev pub partOf : List ℕ → Part → List ℕ
-partOf s p = take (p .len) (drop (p .at) s)
-
--- the entries of a layout and of the spans
-abbrev pub moduleNo : Layout → ℕ → Module
-moduleNo l i = getD (l .modules) i (record { «data» = record { at = 0; len = 0 }; string = record { at = 0; len = 0 } })
-
-abbrev pub spanNo : List Span → ℕ → Span
-spanNo spans i = getD spans i (record { start = record { 0 = 0 }; end = record { 0 = 0 } })
-
 -- the lengths of the first n strings
 unfoldable pub stringLengths : Layout → ℕ → List ℕ
-stringLengths l zero = []
-stringLengths l (suc n) = stringLengths l n ++ (moduleNo l n .string .len ∷ [])
+stringLengths l n = listed (λ i. moduleNo l i .string .len) n
 
--- the first n modules of a submission, placed at the spans
+-- a module of a submission, placed at its span
+abbrev pub loadedNo : List ℕ → Layout → List Span → ℕ → Loaded
+loadedNo s l spans i = record { start = spanNo spans i .start .0; end = spanNo spans i .end .0; string = bytesOf s (moduleNo l i .string) }
+
+-- the first n modules
 unfoldable pub loaded : List ℕ → Layout → List Span → ℕ → List Loaded
-loaded s l spans zero = []
-loaded s l spans (suc n) =
-    loaded s l spans n
-    ++ (record { start = spanNo spans n .start .0; end = spanNo spans n .end .0; string = partOf s (moduleNo l n .string) } ∷ [])
+loaded s l spans n = listed (loadedNo s l spans) n
 
 -- what the block of a load says
 abbrev pub contentsOf : List ℕ → Layout → List Span → List ℕ → List ℕ → ℕ → ℕ → ℕ → Contents

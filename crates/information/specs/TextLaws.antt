@@ -3,7 +3,7 @@
 --     address-none, address-some, flags-some      what stands for a text in a field
 --     text-none, text-some, length-textBytes      a text's bytes
 --     textsSize-more, texts-more, entries-more    one text, one entry more
---     length-entries, wordBytes-append, map-more  lengths and rows
+--     length-entries, length-stringLengths        how many there are
 --     strings-more, strings-fewer, strings-room   the strings of a layout
 --     block-length                                the length of a block with the first n strings
 -- Assumes nothing.
@@ -15,9 +15,11 @@ use native.Mathlib.Nat.{add-zero, eq-or-lt-of-le, le-of-suc-le-suc}
 use native.Mathlib.Numerals.{add-one}
 use native.Mathlib.Omega.{arith}
 use lib.ListN.{length, length-append}
-use Rattle.number.specs.Number.{wordBytes}
+use Rattle.laws.specs.Table.{listed}
+use Rattle.laws.specs.TableLaws.{length-listed}
 use Rattle.submission.specs.declared.Layout.{Layout}
-use Rattle.information.specs.Information.{Entry, textOf, entryWords, textBytes, textSize, textsSize, addressOf, lineFlags, flagsOf, entries, texts, moduleNo, stringsOffset, blockLength, stringLengths}
+use Rattle.submission.specs.Format.{moduleNo}
+use Rattle.information.specs.Information.{Entry, textOf, entryWords, textBytes, textSize, textsSize, addressOf, lineFlags, flagsOf, entries, texts, stringsOffset, blockLength, stringLengths}
 
 -- a text and its zero
 pub size-none : (n : ℕ) → n ≡ 0 → 0 ≡ textSize n
@@ -75,11 +77,6 @@ unfolding textsSize
 textsSize-more [] n = omega arith
 textsSize-more (k ∷ ns) n = omega (arith, textsSize-more ns n)
 
--- one element more, mapped
-pub map-more : {A B : Type 0} (f : A → B) (xs : List A) (x : A) → map f (xs ++ (x ∷ [])) ≡ map f xs ++ (f x ∷ [])
-map-more f [] x = refl
-map-more f (y ∷ xs) x = ap (λ (l : List _). f y ∷ l) (map-more f xs x)
-
 pub texts-more : (ss : List (List ℕ)) (s : List ℕ) → texts (ss ++ (s ∷ [])) ≡ texts ss ++ textBytes s
 unfolding texts
 texts-more [] s = append-nil (textBytes s)
@@ -98,21 +95,14 @@ unfolding entries entryWords
 length-entries [] a = refl
 length-entries (e ∷ es) a = omega (arith, length-entries es (a + textSize (e .text)))
 
--- the bytes of two rows of words
-pub wordBytes-append : (ws vs : List ℕ) → wordBytes (ws ++ vs) ≡ wordBytes ws ++ wordBytes vs
-unfolding wordBytes
-wordBytes-append [] vs = refl
-wordBytes-append (x ∷ ws) vs = rw (wordBytes-append ws vs, append-assoc) refl
-
 module _ (l : Layout) where
   pub length-stringLengths : (n : ℕ) → length (stringLengths l n) ≡ n
   unfolding stringLengths
-  length-stringLengths zero = refl
-  length-stringLengths (suc n) = length-append (stringLengths l n) (moduleNo l n .string .len ∷ []) ∙ omega (arith, length-stringLengths n)
+  length-stringLengths n = length-listed (λ i. moduleNo l i .string .len) n
 
   -- the bytes of one string more
   strings-suc : (n : ℕ) → textsSize (stringLengths l (suc n)) ≡ textsSize (stringLengths l n) + textSize (moduleNo l n .string .len)
-  unfolding stringLengths
+  unfolding stringLengths listed
   strings-suc n = textsSize-more (stringLengths l n) (moduleNo l n .string .len)
 
   pub strings-more : (n : ℕ) → textsSize (stringLengths l (n + 1)) ≡ textsSize (stringLengths l n) + textSize (moduleNo l n .string .len)

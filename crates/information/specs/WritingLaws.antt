@@ -1,5 +1,5 @@
 -- Laws of the block of a load.
---     length-entriesOf, entriesOf-more, entryTexts, stringsOf-more, length-strings    its entries and strings, one by one
+--     entryTexts, length-strings                                 the lengths of its strings
 --     length-loaded, loaded-strings, loaded-entries, block-is    the block by the layout and the spans
 --     load-module, length-load, load-small    what it says of a module, its length, and that its words are below 2^32
 --     strings-bound, block-bound              how long it is at most
@@ -7,74 +7,52 @@
 -- Assumes nothing.
 use mathlib.Core.Path.{_≡_, refl, ap, _∙_}
 use mathlib.Core.List.{List, [], _∷_, _++_, map}
-use mathlib.Core.Logic.{⊎-elim}
-use native.Mathlib.Nat.{eq-or-lt-of-le, le-of-suc-le-suc, suc-mul}
-use lib.Seq.{getD-at}
+use native.Mathlib.Nat.{suc-mul}
 use Prim.Native.Nat.{ℕ, zero, suc, _+_, _*_, _-_, _^_, _≤_, _<_}
-use native.Mathlib.Numerals.{add-one}
 use native.Mathlib.Omega.{arith}
-use lib.ListN.{length, getD, List·getD-append, length-append, length-take, length-drop}
+use lib.ListN.{length, length-append}
+use Rattle.laws.specs.Table.{listed}
+use Rattle.laws.specs.TableLaws.{length-listed, listed-at, listed-same, map-listed}
 use Rattle.number.specs.Number.{wordBytes}
 use Rattle.address.specs.declared.Span.{Span}
-use Rattle.submission.specs.declared.Part.{Part}
 use Rattle.submission.specs.declared.Layout.{Layout}
-use Rattle.information.specs.Information.{mapOffset, loaderName, blockLength, stringsOffset, structureAt, structureWords, entries, partsOf, blockOf, contentsOf, textOf, stringOf, entryOf, textsSize, texts, partOf, moduleNo, spanNo, stringLengths, loaded}
-use Rattle.information.specs.TextLaws.{size-high, length-textBytes, textsSize-more, texts-more, map-more, block-length}
+use Rattle.submission.specs.Format.{moduleNo}
+use Rattle.submission.specs.FormatLaws.{length-bytesOf}
+use Rattle.information.specs.Information.{mapOffset, loaderName, blockLength, stringsOffset, structureAt, structureWords, entries, partsOf, blockOf, contentsOf, textOf, stringOf, entryOf, textsSize, texts, stringLengths, loadedNo, loaded}
+use Rattle.information.specs.TextLaws.{size-high, length-textBytes, textsSize-more, texts-more, block-length}
 use Rattle.information.specs.Reading.{lengthOf, noLoaded, moduleOf, Small}
 use Rattle.information.specs.InformationLaws.{length-block}
-use Rattle.information.specs.Writing.{entriesOf, stringsOf, SpansLow, StringsIn, Room}
-
-pub length-entriesOf : (l : Layout) (spans : List Span) (n : ℕ) → length (entriesOf l spans n) ≡ n
-unfolding entriesOf
-length-entriesOf l spans zero = refl
-length-entriesOf l spans (suc n) = length-append (entriesOf l spans n) _ ∙ omega (arith, length-entriesOf l spans n)
-
--- one entry more
-pub entriesOf-more : (l : Layout) (spans : List Span) (n : ℕ)
-    → entriesOf l spans (n + 1) ≡ entriesOf l spans n ++ (record { start = spanNo spans n .start .0; end = spanNo spans n .end .0; text = moduleNo l n .string .len } ∷ [])
-unfolding entriesOf
-entriesOf-more l spans n = rw add-one refl
-
--- one string more
-pub stringsOf-more : (s : List ℕ) (l : Layout) (n : ℕ) → stringsOf s l (n + 1) ≡ stringsOf s l n ++ (partOf s (moduleNo l n .string) ∷ [])
-unfolding stringsOf
-stringsOf-more s l n = rw add-one refl
+use Rattle.information.specs.Writing.{entryNo, entriesOf, stringsOf, SpansLow, StringsIn, Room}
 
 pub entryTexts : (l : Layout) (spans : List Span) (n : ℕ) → map textOf (entriesOf l spans n) ≡ stringLengths l n
-unfolding entriesOf stringLengths
-entryTexts l spans zero = refl
-entryTexts l spans (suc n) = rw (map-more, entryTexts l spans n) refl
-
--- a part inside the submission has its length
-pub length-part : (s : List ℕ) (p : Part) → p .at + p .len ≤ length s → length (partOf s p) ≡ p .len
-length-part s p h = simp (length-take, length-drop) (omega arith)
+unfolding stringLengths
+entryTexts l spans n = map-listed textOf (entryNo l spans) n
 
 module _ (s : List ℕ) (l : Layout) where
   -- the bytes of the first n strings
   pub length-strings : (n : ℕ) → ((i : ℕ) → i < n → moduleNo l i .string .at + moduleNo l i .string .len ≤ length s)
       → length (texts (stringsOf s l n)) ≡ textsSize (stringLengths l n)
-  unfolding stringsOf stringLengths texts textsSize
+  unfolding stringLengths listed texts textsSize
   length-strings zero h = refl
   length-strings (suc n) h =
-      rw (texts-more, textsSize-more, length-append, length-textBytes, length-part s (moduleNo l n .string) (h n (omega arith)), length-strings n (λ i u. h i (omega arith))) refl
+      rw (texts-more, textsSize-more, length-append, length-textBytes, length-bytesOf s (moduleNo l n .string) (h n (omega arith)), length-strings n (λ i u. h i (omega arith))) refl
 
 -- the modules of a load: how many, their entries and their strings
 module _ (s : List ℕ) (l : Layout) (spans : List Span) where
   pub length-loaded : (n : ℕ) → length (loaded s l spans n) ≡ n
   unfolding loaded
-  length-loaded zero = refl
-  length-loaded (suc n) = length-append (loaded s l spans n) _ ∙ omega (arith, length-loaded n)
+  length-loaded n = length-listed (loadedNo s l spans) n
 
   pub loaded-strings : (n : ℕ) → map stringOf (loaded s l spans n) ≡ stringsOf s l n
-  unfolding loaded stringsOf
-  loaded-strings zero = refl
-  loaded-strings (suc n) = rw (map-more, loaded-strings n) refl
+  unfolding loaded
+  loaded-strings n = map-listed stringOf (loadedNo s l spans) n
 
   pub loaded-entries : (n : ℕ) → ((i : ℕ) → i < n → moduleNo l i .string .at + moduleNo l i .string .len ≤ length s)
       → map entryOf (loaded s l spans n) ≡ entriesOf l spans n
-  unfolding loaded entriesOf
-  loaded-entries zero h = refl
-  loaded-entries (suc n) h = rw (map-more, loaded-entries n (λ i u. h i (omega arith)), length-part s (moduleNo l n .string) (h n (omega arith))) refl
+  unfolding loaded
+  loaded-entries n h =
+      map-listed entryOf (loadedNo s l spans) n
+      ∙ listed-same _ (entryNo l spans) n (λ i u. rw (length-bytesOf s (moduleNo l i .string) (h i u)) refl)
 
   -- the block of a load, by the layout and the spans
   pub block-is : (m line : List ℕ) (start lower upper : ℕ) → StringsIn s l
@@ -86,27 +64,19 @@ module _ (s : List ℕ) (l : Layout) (spans : List Span) where
 
 -- what the block of a load says of its modules
 module _ (s : List ℕ) (l : Layout) (spans : List Span) where
-  loaded-more : (n i : ℕ) → i < n
-      → getD (loaded s l spans n) i noLoaded ≡ record { start = spanNo spans i .start .0; end = spanNo spans i .end .0; string = partOf s (moduleNo l i .string) }
-  unfolding loaded
-  loaded-more zero i h = absurd (omega arith)
-  loaded-more (suc n) i h =
-      ⊎-elim
-      (λ (e : i ≡ n). rw e (getD-at (loaded s l spans n) _ [] noLoaded n (length-loaded s l spans n)))
-      (λ (u : i < n). List·getD-append (loaded s l spans n) _ noLoaded i (omega (arith, length-loaded s l spans n)) ∙ loaded-more n i u)
-      (eq-or-lt-of-le (le-of-suc-le-suc h))
-
   loaded-lengths : (n : ℕ) → ((i : ℕ) → i < n → moduleNo l i .string .at + moduleNo l i .string .len ≤ length s)
       → map lengthOf (loaded s l spans n) ≡ stringLengths l n
   unfolding loaded stringLengths
-  loaded-lengths zero h = refl
-  loaded-lengths (suc n) h = rw (map-more, loaded-lengths n (λ i u. h i (omega arith)), length-part s (moduleNo l n .string) (h n (omega arith))) refl
+  loaded-lengths n h =
+      map-listed lengthOf (loadedNo s l spans) n
+      ∙ listed-same _ (λ i. moduleNo l i .string .len) n (λ i u. length-bytesOf s (moduleNo l i .string) (h i u))
 
   module _ (m line : List ℕ) (start lower upper : ℕ) where
     pub load-module : (i : ℕ) → i < l .count
         → moduleOf (contentsOf s l spans m line start lower upper) i
-        ≡ record { start = spanNo spans i .start .0; end = spanNo spans i .end .0; string = partOf s (moduleNo l i .string) }
-    load-module i h = loaded-more (l .count) i h
+        ≡ loadedNo s l spans i
+    unfolding loaded
+    load-module i h = listed-at (loadedNo s l spans) (l .count) i noLoaded h
 
     -- its length is the one known before any placing
     pub length-load : StringsIn s l → length (blockOf (contentsOf s l spans m line start lower upper)) ≡ blockLength (stringLengths l (l .count)) (length m) (length line)
@@ -125,7 +95,7 @@ module _ (s : List ℕ) (l : Layout) (spans : List Span) where
 
 -- a bound on the length of a block whose strings have at most k bytes
 pub strings-bound : (l : Layout) (k n : ℕ) → ((i : ℕ) → i < n → moduleNo l i .string .len ≤ k) → textsSize (stringLengths l n) ≤ n * (k + 1)
-unfolding stringLengths textsSize
+unfolding stringLengths listed textsSize
 strings-bound l k zero h = omega arith
 strings-bound l k (suc n) h =
     omega (arith, textsSize-more (stringLengths l n) (moduleNo l n .string .len), strings-bound l k n (λ i u. h i (omega arith)), size-high (moduleNo l n .string .len), h n (omega arith), suc-mul n (k + 1))

@@ -2,7 +2,8 @@
 use submission::Layout;
 ghost use mathlib.Core.Path.{_≡_};
 ghost use Prim.Native.Nat.{_≤_, _<_, _^_};
-ghost use Rattle.information.specs.Information.{maxModules, textSize, stringsOffset, PartsAt, stringLengths, blockLength};
+ghost use Rattle.submission.specs.Format.{moduleLimit};
+ghost use Rattle.information.specs.Information.{textSize, stringsOffset, PartsAt, stringLengths, blockLength};
 
 // The bytes of the structure, of a module's entry, and of the loader's name with its zero.
 pub const STRUCTURE: usize = 88;
@@ -49,7 +50,7 @@ pub fn part_offsets(count: usize, extent: usize, text: usize) -> Offsets
 
 // The length of the block for the modules of a submission, a map of `extent` bytes and a command line of `text` bytes.
 pub fn block_length(layout: Layout, extent: usize, text: usize) -> usize
-    requires { ⌜ (layout .count ≤ maxModules) × (blockLength (stringLengths layout (layout .count)) extent text < 2 ^ 64) ⌝ }
+    requires { ⌜ (layout .count ≤ moduleLimit) × (blockLength (stringLengths layout (layout .count)) extent text < 2 ^ 64) ⌝ }
     ensures { λ r. ⌜ r ≡ blockLength (stringLengths layout (layout .count)) extent text ⌝ }
 {
     let count = layout.count;

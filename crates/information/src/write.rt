@@ -24,7 +24,7 @@ pub fn write_block(
     at: usize,
     submission: &[u8],
     layout: Layout,
-    spans: [Span; 16],
+    spans: [Span; submission::MODULES],
     map: &[u8],
     line: &[u8],
     start: PhysAddr,
@@ -49,7 +49,7 @@ fn write_tables(
     at: usize,
     structure: Structure,
     layout: Layout,
-    spans: [Span; 16],
+    spans: [Span; submission::MODULES],
     strings: u64,
 )
     requires { ⌜ SpansLow layout spans × (at + mapOffset (layout .count) < 2 ^ 64) × (strings + textsSize (stringLengths layout (layout .count)) ≤ 2 ^ 32) ⌝ }
@@ -161,7 +161,13 @@ fn structure_words(s: Structure) -> [u32; 22]
 }
 
 // Writes the modules' entries; their strings begin at the address `strings`.
-fn write_entries(window: &mut [u8], at: usize, layout: Layout, spans: [Span; 16], strings: u64)
+fn write_entries(
+    window: &mut [u8],
+    at: usize,
+    layout: Layout,
+    spans: [Span; submission::MODULES],
+    strings: u64,
+)
     requires { ⌜ SpansLow layout spans × (at + entrySize * layout .count < 2 ^ 64) × (strings + textsSize (stringLengths layout (layout .count)) ≤ 2 ^ 32) ⌝ }
     ensures { λ _. ⌜ now (window .exit) ≡ patched (now (window .entry)) at (wordBytes (entries strings (entriesOf layout spans (layout .count)))) ⌝ }
 {

@@ -3,7 +3,9 @@
 use mathlib.Core.Path.{_≡_, ap}
 use Prim.Native.Nat.{ℕ, _+_, _-_, _≤_, _<_, _^_}
 use native.Mathlib.Omega.{arith}
-use Rattle.information.specs.Information.{stringsOffset, textSize, textsSize, moduleNo, stringLengths}
+use Rattle.laws.specs.Table.{listed}
+use Rattle.submission.specs.Format.{moduleNo}
+use Rattle.information.specs.Information.{stringsOffset, textSize, textsSize, stringLengths}
 use Rattle.information.specs.TextLaws.{block-length, strings-more, strings-room}
 use borrow.Author.Needs.{needs}
 use Rattle.information.proofs.size.block_length.Statement.{statement}
@@ -28,7 +30,7 @@ part-offsets-requires : tie.Need-part-offsets-requires Inv-loop μ-loop
 part-offsets-requires c κs = omega (arith, block-length (c .args .t1) (c .args .t1 .count) (c .args .extent) (c .args .text))
 
 loop-holds : tie.Need-loop-holds Inv-loop μ-loop
-unfolding stringLengths textsSize
+unfolding stringLengths listed textsSize
 loop-holds c = search needs
 
 mul-m : tie.Need-mul-m Inv-loop μ-loop

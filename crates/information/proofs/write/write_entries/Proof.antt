@@ -7,7 +7,10 @@ use lib.ListN.{length}
 use Rattle.number.specs.Number.{wordBytes}
 use Rattle.memory.specs.Patched.{patched}
 use Rattle.memory.specs.PatchedLaws.{patched-nil}
-use Rattle.information.specs.Information.{textSize, textsSize, entries, moduleNo, spanNo, stringLengths}
+use Rattle.laws.specs.Table.{listed}
+use Rattle.address.specs.Address.{spanNo}
+use Rattle.submission.specs.Format.{moduleNo}
+use Rattle.information.specs.Information.{textSize, textsSize, entries, stringLengths}
 use Rattle.information.specs.TextLaws.{size-low, strings-more, strings-room}
 use Rattle.information.specs.Writing.{entriesOf}
 use Rattle.information.proofs.Turns.{entry-written}
@@ -38,7 +41,7 @@ here c =
     (start .pre .0 .starts i t, start .pre .0 .ends i t, strings-room l (l .count) i t, size-low (moduleNo l i .string .len))
 
 loop-holds : tie.Need-loop-holds Inv-loop μ-loop
-unfolding stringLengths entriesOf entries textsSize wordBytes
+unfolding stringLengths listed entries textsSize wordBytes
 loop-holds c = (search needs, search needs, sym (patched-nil _ _), search needs)
 
 mul-m : tie.Need-mul-m Inv-loop μ-loop

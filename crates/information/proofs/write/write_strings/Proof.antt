@@ -6,7 +6,9 @@ use native.Mathlib.Omega.{arith}
 use lib.ListN.{length, length-take, length-drop}
 use Rattle.memory.specs.Patched.{patched}
 use Rattle.memory.specs.PatchedLaws.{patched-nil}
-use Rattle.information.specs.Information.{textSize, textsSize, texts, moduleNo, stringLengths}
+use Rattle.laws.specs.Table.{listed}
+use Rattle.submission.specs.Format.{moduleNo}
+use Rattle.information.specs.Information.{textSize, textsSize, texts, stringLengths}
 use Rattle.information.specs.TextLaws.{size-low, strings-more, strings-room}
 use Rattle.information.specs.Writing.{stringsOf}
 use Rattle.information.proofs.Turns.{string-written}
@@ -35,7 +37,7 @@ here c =
     (start .pre .0 .within i (c .before .loop-test .taken), strings-room l (l .count) i (c .before .loop-test .taken), size-low (moduleNo l i .string .len))
 
 loop-holds : tie.Need-loop-holds Inv-loop μ-loop
-unfolding stringLengths stringsOf texts textsSize
+unfolding stringLengths listed texts textsSize
 loop-holds c = (search needs, search needs, sym (patched-nil _ _), search needs)
 
 mul-m : tie.Need-mul-m Inv-loop μ-loop
