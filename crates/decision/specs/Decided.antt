@@ -25,9 +25,10 @@ use Rattle.placement.specs.declared.Spans.{Spans}
 use Rattle.placement.specs.declared.Placed.{Placed}
 use Rattle.placement.specs.Free.{spanAt}
 use Rattle.placement.specs.Order.{placeItems}
+use Rattle.address.specs.Address.{noSpan}
 use Rattle.decision.specs.declared.Plan.{Plan}
 use Rattle.decision.specs.declared.Decision.{Decision}
-use Rattle.decision.specs.Gather.{noSpan, extentNo, extentsOf, itemsOf, moduleSpans}
+use Rattle.decision.specs.Gather.{extentNo, extentsOf, itemsOf, moduleSpans}
 
 -- the kernel's extents lie wholly in open memory
 unfoldable pub extentOpen : Board → Kernel → ℕ → Bool

@@ -16,17 +16,16 @@ use native.Mathlib.Omega.{arith}
 use borrow.Author.Tests.{ltb-false, not-true}
 use lib.ListN.{length, getD}
 use Rattle.laws.specs.Checks.{Check, firstOf, passes}
-use Rattle.laws.specs.CheckLaws.{passes-on}
 use Rattle.laws.specs.TestLaws.{and-left}
 use Rattle.address.specs.Address.{top}
 use Rattle.answer.specs.Answer.{isLoad, orElse}
-use Rattle.answer.specs.Order.{refuses, chain-append, or-else-same, or-else-load, passes-is}
+use Rattle.answer.specs.Order.{refuses, chain-append, or-else-same, or-else-load, passes-is, load-is}
 use Rattle.answer.specs.declared.Answer.{Answer}
 use Rattle.answer.specs.declared.Answer.the-variants.{Load}
 use Rattle.submission.specs.declared.Layout.{Layout}
 use Rattle.submission.specs.declared.Module.{Module}
 use Rattle.submission.specs.declared.Parsed.{Parsed}
-use Rattle.submission.specs.Format.{moduleCount, moduleLimit, noModule, dataLength, stringLength, layoutOf, bytesOf}
+use Rattle.submission.specs.Format.{moduleCount, moduleLimit, dataLength, stringLength, layoutOf, bytesOf, moduleNo}
 use Rattle.submission.specs.FormatLaws.{layout-count, module-at}
 use Rattle.submission.specs.Rules.{submissionChecks, lineLimit, stringLimit, parsed}
 use Rattle.submission.specs.RuleLaws.{Accepted, accepted, parsed-layout}
@@ -49,7 +48,6 @@ use Rattle.image.specs.JudgedLaws.{accepted as accepted-image}
 use Rattle.information.specs.Information.{stringLengths, blockLength}
 use Rattle.information.specs.WritingLaws.{block-bound}
 use Rattle.decision.specs.Lent.{Lent, layoutIn, imageIn, kernelIn, lineIn, boardIn, blockIn}
-use Rattle.decision.specs.Gather.{moduleNo}
 use Rattle.decision.specs.Decided.{noPlan, decidedBy, memoryChecks, memoryDecision}
 use Rattle.decision.specs.DecidedLaws.{stage-refuses, stage-passes}
 use Rattle.decision.specs.Decision.{checks, decisionOf}
@@ -137,10 +135,6 @@ pub record Passed (x : Lent) : Type 0 where
   pub map : badMap (x .map) ≡ false
   pub image : firstOf (imageChecks (imageIn x)) Load ≡ Load
 
--- an answer that is a load, of checks that are all refusals
-loads : (ks : List (Check Answer)) → refuses ks ≡ true → isLoad (firstOf ks Load) ≡ true → firstOf ks Load ≡ Load
-loads ks r h = passes-on ks Load (sym (passes-is ks r) ∙ h)
-
 module _ (x : Lent) where
   pub passed : isLoad (firstOf (lentChecks x) Load) ≡ true → Passed x
   passed h =
@@ -152,9 +146,9 @@ module _ (x : Lent) where
       record {
         rules = r;
         submission = accepted (x .submission) r;
-        window = window-fits (x .first) (x .size) .0 (loads _ (window-refuses x) (c .0));
-        map = load-good (x .map) (loads _ (map-refuses x) (d .0));
-        image = loads _ (image-refuses x) (d .1);
+        window = window-fits (x .first) (x .size) .0 (load-is _ (window-refuses x) (c .0));
+        map = load-good (x .map) (load-is _ (map-refuses x) (d .0));
+        image = load-is _ (image-refuses x) (d .1);
       }
 
 module _ (x : Lent) (p : Passed x) where

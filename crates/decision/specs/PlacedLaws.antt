@@ -14,9 +14,9 @@ use borrow.Author.Tests.{lt-ltb, le-ltb}
 use lib.ListN.{length}
 use Rattle.laws.specs.TestLaws.{lt-or-le}
 use Rattle.laws.specs.TableLaws.{length-table, table-at}
-use Rattle.address.specs.Address.{page, boundaryOf}
+use Rattle.address.specs.Address.{page, boundaryOf, noSpan}
 use Rattle.submission.specs.declared.Layout.{Layout}
-use Rattle.submission.specs.Format.{moduleLimit}
+use Rattle.submission.specs.Format.{moduleLimit, moduleNo}
 use Rattle.image.specs.declared.Kernel.{Kernel}
 use Rattle.board.specs.declared.Board.{Board}
 use Rattle.board.specs.Open.{openAt, Checked}
@@ -25,11 +25,12 @@ use Rattle.placement.specs.declared.Item.{Item}
 use Rattle.placement.specs.declared.Items.{Items}
 use Rattle.placement.specs.declared.Spans.{Spans}
 use Rattle.placement.specs.Free.{maxSpans, spanAt}
-use Rattle.placement.specs.Order.{maxItems, itemAt}
+use Rattle.placement.specs.Order.{maxItems, itemAt, noItem}
 use Rattle.placement.specs.Ready.{Bounded, ReadyItems}
 use Rattle.placement.specs.Demand.{InOrder, Stands}
 use Rattle.placement.specs.DemandLaws.{board-in-order}
-use Rattle.decision.specs.Gather.{segmentLimit, noSpan, noItem, extentNo, extentsOf, moduleNo, itemNo, itemsOf}
+use Rattle.image.specs.Judged.{segmentLimit}
+use Rattle.decision.specs.Gather.{extentNo, extentsOf, itemNo, itemsOf}
 use Rattle.decision.specs.Decided.{placedBy}
 
 pub record Prepared (b : Board) (k : Kernel) (l : Layout) (size : ℕ) : Type 0 where

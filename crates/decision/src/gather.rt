@@ -10,7 +10,8 @@ ghost use mathlib.Core.Path.{_≡_};
 ghost use Prim.Native.Nat.{_+_, _≤_};
 ghost use Rattle.submission.specs.Format.{moduleLimit};
 ghost use Rattle.placement.specs.Free.{maxSpans};
-ghost use Rattle.decision.specs.Gather.{segmentLimit, extentNo, extentsOf, itemNo, itemsOf, moduleSpans};
+ghost use Rattle.image.specs.Judged.{segmentLimit};
+ghost use Rattle.decision.specs.Gather.{extentNo, extentsOf, itemNo, itemsOf, moduleSpans};
 
 // The kernel's extents, as spans taken.
 pub fn extents(kernel: Kernel) -> Spans
@@ -21,7 +22,7 @@ pub fn extents(kernel: Kernel) -> Spans
         start: PhysAddr(0),
         end: PhysAddr(0),
     };
-    let mut list = [none; 33];
+    let mut list = [none; placement::SPANS];
     let mut i = 0;
     while i < kernel.count {
         list[i] = extent(kernel, i);
@@ -50,7 +51,7 @@ pub fn items(layout: Layout, pages: bool, size: u64) -> Items
         length: 0,
         boundary: 0,
     };
-    let mut list = [none; 17];
+    let mut list = [none; placement::ITEMS];
     let mut i = 0;
     while i <= layout.count {
         list[i] = item(layout, pages, size, i);
@@ -78,7 +79,7 @@ fn item(layout: Layout, pages: bool, size: u64, i: usize) -> Item
 }
 
 // The spans of `count` modules among those placed, of which the first is at the index `from`.
-pub fn module_spans(spans: Spans, from: usize, count: usize) -> [Span; 16]
+pub fn module_spans(spans: Spans, from: usize, count: usize) -> [Span; submission::MODULES]
     requires { ⌜ (count ≤ moduleLimit) × (from + count ≤ maxSpans) ⌝ }
     ensures { λ r. ⌜ r ≡ moduleSpans spans from count ⌝ }
 {
@@ -86,7 +87,7 @@ pub fn module_spans(spans: Spans, from: usize, count: usize) -> [Span; 16]
         start: PhysAddr(0),
         end: PhysAddr(0),
     };
-    let mut list = [none; 16];
+    let mut list = [none; submission::MODULES];
     let mut i = 0;
     while i < count {
         list[i] = spans.list[from + i];

@@ -14,7 +14,7 @@ pub mod place;
 // Where everything of a load lies, and what is handed over besides the entry; past the last module the spans are zero.
 pub struct Plan {
     pub kernel: Kernel,
-    pub modules: [Span; 16],
+    pub modules: [Span; submission::MODULES],
     pub block: Span,
     pub eax: u32,
     pub ebx: u32,

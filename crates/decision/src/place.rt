@@ -15,7 +15,7 @@ ghost use Rattle.laws.specs.Checks.{firstOf};
 ghost use Rattle.submission.specs.Format.{moduleLimit};
 ghost use Rattle.board.specs.Open.{Checked};
 ghost use Rattle.placement.specs.Free.{maxSpans, spanAt};
-ghost use Rattle.decision.specs.Gather.{segmentLimit};
+ghost use Rattle.image.specs.Judged.{segmentLimit};
 ghost use Rattle.decision.specs.PlacedLaws.{Prepared};
 ghost use Rattle.decision.specs.Decided.{kernelOpen, roomChecks, planOf, noPlan, memoryDecision};
 
@@ -79,7 +79,7 @@ pub fn refuse(a: Answer) -> Decision
         answer: a,
         plan: Plan {
             kernel: image::no_kernel(),
-            modules: [none; 16],
+            modules: [none; submission::MODULES],
             block: none,
             eax: 0,
             ebx: 0,

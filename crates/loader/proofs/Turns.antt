@@ -11,8 +11,9 @@ use Rattle.memory.specs.PatchedLaws.{length-patched, patched-append}
 use Rattle.memory.specs.Writes.{Write, written}
 use Rattle.memory.specs.WritesLaws.{written-append}
 use Rattle.address.specs.declared.Span.{Span}
+use Rattle.address.specs.Address.{spanNo}
 use Rattle.submission.specs.declared.Layout.{Layout}
-use Rattle.submission.specs.Format.{bytesOf}
+use Rattle.submission.specs.Format.{bytesOf, moduleNo}
 use Rattle.submission.specs.CommandLine.{commandLine}
 use Rattle.memory_map.specs.declared.parse.Parsed.{Parsed as ParsedMap}
 use Rattle.memory_map.specs.Pairs.{parsed as parsedMap}
@@ -20,8 +21,8 @@ use Rattle.memory_map.specs.Sizes.{memLower, memUpper}
 use Rattle.information.specs.Information.{contentsOf, blockOf}
 use Rattle.information.specs.Writing.{Room}
 use Rattle.image.specs.declared.Kernel.{Kernel}
-use Rattle.decision.specs.Gather.{segmentNo, moduleNo}
-use Rattle.loader.specs.Memory.{spanNo, segmentWrite, moduleWrite, contentsFor}
+use Rattle.image.specs.Judged.{segmentNo}
+use Rattle.loader.specs.Memory.{segmentWrite, moduleWrite, contentsFor}
 
 -- no write yet
 pub none-written : (d : List ℕ) (f : ℕ → Write) → d ≡ written d (listed f 0)

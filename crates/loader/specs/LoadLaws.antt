@@ -18,12 +18,12 @@ use Rattle.laws.specs.Checks.{firstOf}
 use Rattle.laws.specs.Tests.{allFrom}
 use Rattle.laws.specs.TestLaws.{all-elim, lt-or-le}
 use Rattle.laws.specs.TableLaws.{table-at, length-table}
-use Rattle.address.specs.Address.{floor, top}
+use Rattle.address.specs.Address.{floor, top, noSpan, spanNo}
 use Rattle.address.specs.declared.Span.{Span}
 use Rattle.answer.specs.Answer.{isLoad}
 use Rattle.answer.specs.Order.{chain-append, or-else-load}
 use Rattle.answer.specs.declared.Answer.the-variants.{Load}
-use Rattle.submission.specs.Format.{moduleLimit}
+use Rattle.submission.specs.Format.{moduleLimit, moduleNo}
 use Rattle.image.specs.JudgedLaws.{segment, accepted}
 use Rattle.board.specs.declared.Board.{Board}
 use Rattle.board.specs.Open.{openAt}
@@ -35,7 +35,7 @@ use Rattle.placement.specs.FreeLaws.{Holds}
 use Rattle.placement.specs.Order.{itemAt}
 use Rattle.placement.specs.Demand.{InOrder, Stands}
 use Rattle.decision.specs.Lent.{Lent, layoutIn, imageIn, kernelIn, boardIn, blockIn}
-use Rattle.decision.specs.Gather.{noSpan, segmentNo, extentNo, extentsOf, itemsOf, moduleNo, moduleSpans}
+use Rattle.decision.specs.Gather.{extentNo, extentsOf, itemsOf, moduleSpans}
 use Rattle.decision.specs.Decided.{extentOpen, kernelOpen, kernelChecks, roomChecks, placedBy, planOf}
 use Rattle.decision.specs.Decision.{checks, answerOf, placedIn, planIn}
 use Rattle.decision.specs.DecisionLaws.{lentChecks, checks-split, lent-refuses, Passed, passed, prepared}
@@ -145,7 +145,7 @@ module _ (x : Lent) (l : Loads x) where
       (lt-or-le j (kernelIn x .count))
 
   -- the plan's modules and its block, among the spans
-  pub module-span : (i : ℕ) → i < layoutIn x .count → getD (planIn x .modules) i noSpan ≡ spanIn x (kernelIn x .count + i)
+  pub module-span : (i : ℕ) → i < layoutIn x .count → spanNo (planIn x .modules) i ≡ spanIn x (kernelIn x .count + i)
   unfolding planOf moduleSpans
   module-span i h = table-at (λ j. spanAt (placedIn x .spans) (kernelIn x .count + j)) moduleLimit noSpan (layoutIn x .count) i h
 

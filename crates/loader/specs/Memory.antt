@@ -10,22 +10,22 @@ use mathlib.Core.Path.{_≡_}
 use mathlib.Core.Bool.{true, cond}
 use mathlib.Core.List.{List, [], _∷_, _++_}
 use Prim.Native.Nat.{ℕ, _-_}
-use lib.ListN.{getD}
 use Rattle.laws.specs.Table.{listed}
 use Rattle.memory.specs.Patched.{zeros}
 use Rattle.memory.specs.Writes.{Write, written}
 use Rattle.address.specs.declared.Span.{Span}
+use Rattle.address.specs.Address.{spanNo}
 use Rattle.answer.specs.Answer.{isLoad}
 use Rattle.submission.specs.declared.Layout.{Layout}
-use Rattle.submission.specs.Format.{bytesOf}
+use Rattle.submission.specs.Format.{bytesOf, moduleNo}
 use Rattle.image.specs.declared.Kernel.{Kernel}
 use Rattle.submission.specs.CommandLine.{commandLine}
 use Rattle.memory_map.specs.Pairs.{parsed}
 use Rattle.memory_map.specs.Sizes.{memLower, memUpper}
 use Rattle.information.specs.Information.{Contents, contentsOf, blockOf}
+use Rattle.image.specs.Judged.{segmentNo}
 use Rattle.decision.specs.declared.Plan.{Plan}
 use Rattle.decision.specs.Lent.{Lent, layoutIn, imageIn}
-use Rattle.decision.specs.Gather.{noSpan, segmentNo, moduleNo}
 use Rattle.decision.specs.Decision.{answerOf, planIn}
 
 -- the first load byte of segment i stands at its start; f is the window's first address
@@ -36,9 +36,6 @@ segmentWrite f image k i =
       at = s .start .0 - f;
       bytes = bytesOf image (record { at = s .offset .0; len = s .loaded .0 - s .start .0 }) ++ zeros (s .end .0 - s .loaded .0);
     }
-
-abbrev pub spanNo : List Span → ℕ → Span
-spanNo spans i = getD spans i noSpan
 
 unfoldable pub moduleWrite : ℕ → List ℕ → Layout → List Span → ℕ → Write
 moduleWrite f s l spans i = record { at = spanNo spans i .start .0 - f; bytes = bytesOf s (moduleNo l i .«data») }

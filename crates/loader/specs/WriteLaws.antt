@@ -15,19 +15,20 @@ use Rattle.memory.specs.Patched.{patched}
 use Rattle.memory.specs.Writes.{written}
 use Rattle.memory.specs.WritesLaws.{written-append}
 use Rattle.address.specs.declared.Span.{Span}
+use Rattle.address.specs.Address.{spanNo}
 use Rattle.answer.specs.Answer.{isLoad}
 use Rattle.submission.specs.declared.Layout.{Layout}
 use Rattle.submission.specs.declared.Module.{Module}
 use Rattle.submission.specs.declared.Parsed.{Parsed}
-use Rattle.submission.specs.Format.{moduleLimit, moduleCount, bytesOf}
+use Rattle.submission.specs.Format.{moduleLimit, moduleCount, bytesOf, moduleNo}
 use Rattle.submission.specs.FormatLaws.{layout-count, module-at}
 use Rattle.submission.specs.Rules.{parsed}
 use Rattle.submission.specs.RuleLaws.{parsed-layout, string-inside}
 use Rattle.information.specs.Information.{blockOf}
 use Rattle.information.specs.Writing.{SpansLow, StringsIn, Room}
+use Rattle.image.specs.Judged.{segmentLimit}
 use Rattle.decision.specs.declared.Plan.{Plan}
 use Rattle.decision.specs.Lent.{Lent, layoutIn, imageIn, kernelIn, lineIn, boardIn, blockIn}
-use Rattle.decision.specs.Gather.{segmentLimit, noSpan, moduleNo}
 use Rattle.decision.specs.declared.Decision.{Decision}
 use Rattle.decision.specs.Decided.{planOf, decidedBy}
 use Rattle.decision.specs.Decision.{answerOf, planIn, decisionOf}
@@ -36,7 +37,7 @@ use Rattle.loader.specs.Memory.{segmentWrite, moduleWrite, contentsFor, 
 use Rattle.loader.specs.LoadLaws.{Loads, spanIn, countIn, span-inside, module-span, block-span, block-length}
 
 module _ (x : Lent) (h : Loads x) where
-  module-inside : (i : ℕ) → i < layoutIn x .count → (getD (planIn x .modules) i noSpan .start .0 < 2 ^ 32) × (getD (planIn x .modules) i noSpan .end .0 < 2 ^ 32)
+  module-inside : (i : ℕ) → i < layoutIn x .count → (spanNo (planIn x .modules) i .start .0 < 2 ^ 32) × (spanNo (planIn x .modules) i .end .0 < 2 ^ 32)
   module-inside i u =
       let s = span-inside x h (kernelIn x .count + i) (omega arith) in
       rw (module-span x h i u) (omega (arith, s .some, s .top), omega (arith, s .top))

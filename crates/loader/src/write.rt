@@ -16,8 +16,8 @@ ghost use Rattle.submission.specs.Format.{moduleLimit};
 ghost use Rattle.submission.specs.CommandLine.{commandLine};
 ghost use Rattle.information.specs.Information.{blockOf};
 ghost use Rattle.information.specs.Writing.{SpansLow, StringsIn, Room};
+ghost use Rattle.image.specs.Judged.{segmentLimit};
 ghost use Rattle.decision.specs.Lent.{Lent};
-ghost use Rattle.decision.specs.Gather.{segmentLimit};
 ghost use Rattle.loader.specs.Memory.{segmentWrite, moduleWrite, contentsFor, writesOf, Loaded};
 
 // Writes everything of a load: the kernel, the modules, and the information block.
@@ -62,7 +62,7 @@ fn write_information<'a>(
     operator: &'a [u8],
     map: &[u8],
     layout: Layout,
-    modules: [Span; 16],
+    modules: [Span; submission::MODULES],
     start: PhysAddr,
 )
     requires { ⌜ SpansLow layout modules × StringsIn (now submission) layout × Room layout (length (now map)) (length (commandLine (now operator) (now submission))) (start .0) (start .0 - base .0) (length (now window)) ⌝ }
@@ -136,7 +136,7 @@ pub fn write_modules(
     base: PhysAddr,
     submission: &[u8],
     layout: Layout,
-    spans: [Span; 16],
+    spans: [Span; submission::MODULES],
 )
     requires { ⌜ layout .count ≤ moduleLimit ⌝ }
     ensures { λ _. ⌜ now (window .exit) ≡ written (now (window .entry)) (listed (moduleWrite (base .0) (now (submission .entry)) layout spans) (layout .count)) ⌝ }

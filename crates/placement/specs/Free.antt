@@ -5,10 +5,9 @@
 -- Assumes nothing.
 use mathlib.Core.Bool.{Bool, not, _&&_}
 use Prim.Native.Nat.{ℕ}
-use lib.ListN.{getD}
 use Rattle.laws.specs.Tests.{any}
 use Rattle.address.specs.declared.Span.{Span}
-use Rattle.address.specs.Address.{inside}
+use Rattle.address.specs.Address.{inside, spanNo}
 use Rattle.placement.specs.declared.Spans.{Spans}
 
 abbrev pub maxSpans : ℕ
@@ -16,7 +15,7 @@ maxSpans = 33
 
 -- the span of the index i
 abbrev pub spanAt : Spans → ℕ → Span
-spanAt t i = getD (t .list) i (record { start = record { 0 = 0 }; end = record { 0 = 0 } })
+spanAt t i = spanNo (t .list) i
 
 -- the address lies in the span i
 unfoldable pub takenBy : Spans → ℕ → ℕ → Bool

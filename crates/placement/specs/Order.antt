@@ -1,6 +1,6 @@
 -- The items of a load placed in order.                                                            rule: demand 3
---     maxItems      how many items there are at most: 16 modules and the information block
---     itemAt        the item of an index
+--     maxItems              how many items there are at most: 16 modules and the information block
+--     noItem, itemAt        an item of zeros, and the item of an index
 --     spanOf, withSpan      the span of an item at its place, and the spans with one more
 --     placedFrom    k items from the item i on, each at its lowest place beside the spans before it, up to the first with no room
 --     placeItems    all items placed beside the spans taken
@@ -21,8 +21,11 @@ use Rattle.placement.specs.Lowest.{lowestPlace}
 abbrev pub maxItems : ℕ
 maxItems = 17
 
+abbrev pub noItem : Item
+noItem = record { length = 0; boundary = 0 }
+
 abbrev pub itemAt : Items → ℕ → Item
-itemAt q i = getD (q .list) i (record { length = 0; boundary = 0 })
+itemAt q i = getD (q .list) i noItem
 
 -- from the address a on, an item of length n takes a up to but not including a + n
 abbrev pub spanOf : PhysAddr → ℕ → Span

@@ -6,9 +6,15 @@ pub mod free;
 pub mod lowest;
 pub mod order;
 
-// Spans taken: the kernel's extents first, up to 16, then the items placed, up to 17.
+// At most so many items: 16 modules and the information block.
+pub const ITEMS: usize = 17;
+
+// At most so many spans: those of 16 kernel extents and the items.
+pub const SPANS: usize = 33;
+
+// Spans taken: the kernel's extents first, then the items placed.
 pub struct Spans {
-    pub list: [Span; 33],
+    pub list: [Span; SPANS],
     pub count: usize,
 }
 
@@ -20,7 +26,7 @@ pub struct Item {
 
 // The items of a load: the modules, then the information block.
 pub struct Items {
-    pub list: [Item; 17],
+    pub list: [Item; ITEMS],
     pub count: usize,
 }
 

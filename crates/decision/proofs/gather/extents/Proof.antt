@@ -6,7 +6,8 @@ use native.Mathlib.Omega.{arith}
 use Rattle.laws.specs.Table.{table}
 use Rattle.laws.specs.TableLaws.{table-none, table-more}
 use Rattle.placement.specs.Free.{maxSpans}
-use Rattle.decision.specs.Gather.{noSpan, extentNo, extentsOf}
+use Rattle.address.specs.Address.{noSpan}
+use Rattle.decision.specs.Gather.{extentNo, extentsOf}
 use borrow.Author.Needs.{needs}
 use Rattle.decision.proofs.gather.extents.Statement.{statement}
 use Rattle.decision.proofs.gather.extents.Tie as tie

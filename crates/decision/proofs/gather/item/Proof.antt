@@ -1,7 +1,8 @@
 -- `decision::gather::item` meets its contract: both branches are those of `itemNo`.
 -- Assumes nothing.
 use borrow.Author.Tests.{lt-ltb, le-ltb}
-use Rattle.decision.specs.Gather.{moduleNo, itemNo}
+use Rattle.submission.specs.Format.{moduleNo}
+use Rattle.decision.specs.Gather.{itemNo}
 use mathlib.Core.Bool.{Bool, false}
 use mathlib.Core.Path.{_≡_}
 use Prim.Native.Nat.{ℕ, _≤_, _<_}

@@ -5,8 +5,8 @@ use Prim.Native.Nat.{ℕ, _+_, _-_, _≤_}
 use native.Mathlib.Omega.{arith}
 use Rattle.laws.specs.Table.{table}
 use Rattle.laws.specs.TableLaws.{table-none, table-more}
-use Rattle.placement.specs.Order.{maxItems}
-use Rattle.decision.specs.Gather.{noItem, itemNo, itemsOf}
+use Rattle.placement.specs.Order.{maxItems, noItem}
+use Rattle.decision.specs.Gather.{itemNo, itemsOf}
 use borrow.Author.Needs.{needs}
 use Rattle.decision.proofs.gather.items.Statement.{statement}
 use Rattle.decision.proofs.gather.items.Tie as tie

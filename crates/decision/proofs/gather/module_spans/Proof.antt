@@ -7,7 +7,8 @@ use Rattle.laws.specs.Table.{table}
 use Rattle.laws.specs.TableLaws.{table-none, table-more}
 use Rattle.submission.specs.Format.{moduleLimit}
 use Rattle.placement.specs.Free.{spanAt}
-use Rattle.decision.specs.Gather.{noSpan, moduleSpans}
+use Rattle.address.specs.Address.{noSpan}
+use Rattle.decision.specs.Gather.{moduleSpans}
 use borrow.Author.Needs.{needs}
 use Rattle.decision.proofs.gather.module_spans.Statement.{statement}
 use Rattle.decision.proofs.gather.module_spans.Tie as tie
