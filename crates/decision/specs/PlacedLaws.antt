@@ -71,6 +71,10 @@ each-item P l pages size m b i h =
     (λ (u : l .count ≤ i). let e : i ≡ l .count = omega arith in rw (e, item-block l pages size) b)
     (lt-or-le i (l .count)))
 
+-- every item has a boundary that an item may have
+pub items-bounded : (l : Layout) (pages : Bool) (size i : ℕ) → i < itemsOf l pages size .count → Bounded (itemAt (itemsOf l pages size) i)
+items-bounded l pages size = each-item Bounded l pages size (λ i h. bounded pages (moduleNo l i .«data» .len)) (bounded false size)
+
 module _ (b : Board) (k : Kernel) (l : Layout) (size : ℕ) (p : Prepared b k l size) where
   pub items-ready : ReadyItems b (extentsOf k) (itemsOf l (k .pages) size)
   unfolding itemsOf extentsOf
@@ -79,7 +83,7 @@ module _ (b : Board) (k : Kernel) (l : Layout) (size : ℕ) (p : Prepared b k l 
         checked = p .checked;
         items = omega (arith, p .modules);
         spans = omega (arith, p .modules, p .segments);
-        each = each-item Bounded l (k .pages) size (λ i h. bounded (k .pages) (moduleNo l i .«data» .len)) (bounded false size);
+        each = items-bounded l (k .pages) size;
       }
 
   -- no item is empty

@@ -1,0 +1,123 @@
+-- The second promise, for the information block: what a kernel reads back from the window.
+--     read-back    for every load into a window of its size
+-- Assumes nothing.
+use mathlib.Core.Path.{_≡_, refl, sym, ap, _∙_}
+use mathlib.Core.Bool.{true}
+use mathlib.Core.List.{List, [], _∷_, _++_}
+use Prim.Native.Nat.{ℕ, _+_, _*_, _-_, _^_, _/_, min, _≤_, _<_}
+use native.Mathlib.Omega.{arith}
+use lib.ListN.{length, getD}
+use Rattle.laws.specs.Table.{listed}
+use Rattle.laws.specs.Tests.{run}
+use Rattle.laws.specs.TestLaws.{run-says}
+use Rattle.number.specs.Number.{numberAt}
+use Rattle.number.specs.NumberLaws.{numberAt-inside}
+use Rattle.memory.specs.Patched.{patched}
+use Rattle.memory.specs.Writes.{Write, written}
+use Rattle.memory.specs.WritesLaws.{written-append, length-written}
+use Rattle.address.specs.Address.{floor}
+use Rattle.answer.specs.Answer.{isLoad}
+use Rattle.image.specs.JudgedLaws.{accepted}
+use Rattle.memory_map.specs.declared.MemMap.{MemMap}
+use Rattle.memory_map.specs.Usable.{limit, usableAt}
+use Rattle.memory_map.specs.Sizes.{memLower, memUpper}
+use Rattle.memory_map.specs.Pairs.{mapOf, parsed}
+use Rattle.memory_map.specs.PairsLaws.{parsed-good}
+use Rattle.information.specs.Information.{lowerAt, upperAt, lineAt, countAt, modulesAt, mapLengthAt, mapAt, nameAt, flagsAt, structureSize, entrySize, addressOf, mapOffset, nameOffset, lineOffset, structureAt, structureOf, blockOf, contentsOf, blockLength}
+use Rattle.information.specs.Information.{Loaded as LoadedModule}
+use Rattle.information.specs.TextLaws.{length-stringLengths}
+use Rattle.information.specs.Reading.{Small, Fields, EntryAt, fieldsAt, moduleOf, stringAddress}
+use Rattle.information.specs.InformationLaws.{fields, word-zero, entry-reads}
+use Rattle.information.specs.WritingLaws.{length-loaded, length-load, load-small, load-module}
+use Rattle.decision.specs.Lent.{Lent, layoutIn, kernelIn, imageIn, lineIn, blockIn}
+use Rattle.decision.specs.Decided.{planOf}
+use Rattle.decision.specs.Decision.{answerOf, planIn}
+use Rattle.loader.specs.Memory.{segmentWrite, moduleWrite, contentsIn, blockWrite, writesOf, memoryAfter}
+use Rattle.loader.specs.LoadLaws.{Loads, spanIn, span-inside, block-span, block-length}
+use Rattle.loader.specs.WriteLaws.{spans-low, strings-in, room}
+use Rattle.theorems.specs.Promises.{moduleSpan, wordAt, ReadBack}
+
+lower-small : (m : MemMap) → memLower m < 2 ^ 32
+unfolding memLower
+lower-small m = omega arith
+
+upper-small : (m : MemMap) → memUpper m < 2 ^ 32
+unfolding memUpper
+upper-small m = omega (arith, run-says (usableAt m) floor (limit - floor) .low)
+
+module _ (x : Lent) (h : Loads x) where
+  small : Small (contentsIn x)
+  unfolding contentsIn
+  small = load-small (x .submission) (layoutIn x) (planIn x .modules) (x .map) (lineIn x) (planIn x .block .start .0) _ _ (planIn x .block .start .0 - x .first) (x .size) (spans-low x h) (strings-in x h) (room x h) (lower-small _) (upper-small _)
+
+  length-block-is : length (blockOf (contentsIn x)) ≡ blockIn x
+  unfolding contentsIn
+  length-block-is = length-load (x .submission) (layoutIn x) (planIn x .modules) (x .map) (lineIn x) _ _ _ (strings-in x h)
+
+  modules-length : length (contentsIn x .modules) ≡ layoutIn x .count
+  unfolding contentsIn
+  modules-length = length-loaded (x .submission) (layoutIn x) (planIn x .modules) (layoutIn x .count)
+
+  sizes-read : parsed (x .map) .map ≡ mapOf (x .map)
+  sizes-read = rw (← parsed-good (x .map) (h .passed .map)) refl
+
+  module _ (w : List ℕ) (n : length w ≡ x .size) (load : isLoad (answerOf x) ≡ true) where
+    front : List Write
+    front =
+        listed (segmentWrite (x .first) (imageIn x) (planIn x .kernel)) (planIn x .kernel .count)
+        ++ listed (moduleWrite (x .first) (x .submission) (layoutIn x) (planIn x .modules)) (layoutIn x .count)
+
+    -- the block is the last write
+    memory-last : memoryAfter x w ≡ patched (written w front) (planIn x .block .start .0 - x .first) (blockOf (contentsIn x))
+    unfolding memoryAfter writesOf blockWrite written front
+    memory-last = rw load (written-append w front (blockWrite x ∷ []))
+
+    -- a word of the block is read back as it stands there
+    read : (k : ℕ) → k + 4 ≤ blockIn x → wordAt x w k ≡ numberAt 4 (blockOf (contentsIn x)) k
+    unfolding planOf
+    read k l =
+        let r = room x h in
+        ap (λ (m : List ℕ). numberAt 4 m (planIn x .block .start .0 - x .first + k)) memory-last
+        ∙ numberAt-inside 4 (written w front) (planIn x .block .start .0 - x .first) (blockOf (contentsIn x)) k (omega (arith, length-block-is)) (omega (arith, length-block-is, length-written w front, r .inside))
+
+    block-long : structureSize + entrySize * layoutIn x .count ≤ blockIn x
+    unfolding blockLength
+    block-long = omega (arith, length-stringLengths (layoutIn x) (layoutIn x .count))
+
+    found : Fields (blockOf (contentsIn x)) (structureOf (contentsIn x))
+    found = fields (contentsIn x) small
+
+    entry : (i : ℕ) → i < layoutIn x .count → EntryAt (blockOf (contentsIn x)) (structureSize + entrySize * i) (moduleOf (contentsIn x) i .start) (moduleOf (contentsIn x) i .end) (stringAddress (contentsIn x) i)
+    entry i l = entry-reads (contentsIn x) small i (omega (arith, modules-length))
+
+    module-is : (i : ℕ) → i < layoutIn x .count → (moduleOf (contentsIn x) i .start ≡ moduleSpan x i .start .0) × (moduleOf (contentsIn x) i .end ≡ moduleSpan x i .end .0)
+    unfolding contentsIn
+    module-is i l =
+        let e = load-module (x .submission) (layoutIn x) (planIn x .modules) (x .map) (lineIn x) (planIn x .block .start .0) (memLower (parsed (x .map) .map)) (memUpper (parsed (x .map) .map)) i l in
+        (ap (λ (m : LoadedModule). m .start) e, ap (λ (m : LoadedModule). m .end) e)
+
+    pub read-back : ReadBack x w
+    unfolding planOf contentsIn structureAt
+    read-back =
+        let b = block-long in
+        let c = modules-length in
+        let k = accepted (imageIn x) (h .passed .image) in
+        record {
+          eax = refl;
+          ebx = refl;
+          entry = (k .low, k .high);
+          flags = read flagsAt (omega arith) ∙ found .flags;
+          lower = read lowerAt (omega arith) ∙ found .lower ∙ ap memLower sizes-read;
+          upper = read upperAt (omega arith) ∙ found .upper ∙ ap memUpper sizes-read;
+          line = read lineAt (omega arith) ∙ found .line ∙ ap (λ (j : ℕ). addressOf (planIn x .ebx + lineOffset j (length (x .map))) (length (lineIn x))) modules-length;
+          count = read countAt (omega arith) ∙ found .count ∙ modules-length;
+          modules = read modulesAt (omega arith) ∙ found .modules;
+          extent = read mapLengthAt (omega arith) ∙ found .extent;
+          pairs = read mapAt (omega arith) ∙ found .map ∙ ap (λ (j : ℕ). planIn x .ebx + mapOffset j) modules-length;
+          name = read nameAt (omega arith) ∙ found .name ∙ ap (λ (j : ℕ). planIn x .ebx + nameOffset j (length (x .map))) modules-length;
+          zeros = λ j l m. read (4 * j) (omega arith) ∙ word-zero (contentsIn x) j l m;
+          starts = λ i l. read (structureSize + entrySize * i) (omega arith) ∙ entry i l .start-word ∙ module-is i l .0;
+          ends = λ i l. read (structureSize + entrySize * i + 4) (omega arith) ∙ entry i l .end-word ∙ module-is i l .1;
+          strings = λ i l. read (structureSize + entrySize * i + 8) (omega arith) ∙ entry i l .string-word;
+          reserved = λ i l. read (structureSize + entrySize * i + 12) (omega arith) ∙ entry i l .zero-word;
+        }

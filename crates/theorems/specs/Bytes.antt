@@ -1,0 +1,272 @@
+-- The second promise: each byte of the window after a load.
+--     written-bytes    for every load into a window of its size
+-- Assumes nothing.
+use mathlib.Core.Path.{_≡_, refl, sym, ap, _∙_}
+use mathlib.Core.Bool.{true}
+use mathlib.Core.List.{List, [], _∷_, _++_}
+use mathlib.Core.Logic.{⊎-elim, _⊎_, inl, inr}
+use Prim.Native.Nat.{ℕ, zero, suc, _+_, _-_, _≤_, _<_}
+use native.Mathlib.Omega.{arith}
+use lib.ListN.{length, getD, take, drop, length-append, length-replicate, getD-replicate, List·getD-append}
+use lib.Seq.{getD-at, getD-take, getD-drop, getD-append-add}
+use Rattle.image.specs.Judged.{segmentNo}
+use Rattle.address.specs.Address.{noSpan}
+use Rattle.laws.specs.Table.{listed}
+use Rattle.laws.specs.TableLaws.{length-listed, listed-at}
+use Rattle.laws.specs.TestLaws.{lt-or-le}
+use Rattle.memory.specs.Patched.{zeros}
+use Rattle.memory.specs.Writes.{Write, noWrite, writeAt, written, Covers}
+use Rattle.memory.specs.WritesLaws.{length-written, written-outside, written-inside}
+use Rattle.address.specs.declared.Span.{Span}
+use Rattle.answer.specs.Answer.{isLoad}
+use Rattle.submission.specs.declared.Part.{Part}
+use Rattle.submission.specs.Format.{bytesOf, moduleCount, moduleNo}
+use Rattle.submission.specs.FormatLaws.{layout-count, module-at, length-bytesOf}
+use Rattle.submission.specs.RuleLaws.{data-inside}
+use Rattle.image.specs.declared.Segment.{Segment}
+use Rattle.image.specs.JudgedLaws.{accepted}
+use Rattle.placement.specs.FreeLaws.{Holds}
+use Rattle.information.specs.Information.{blockOf}
+use Rattle.information.specs.WritingLaws.{length-load}
+use Rattle.decision.specs.Lent.{Lent, layoutIn, imageIn, kernelIn, lineIn, blockIn}
+use Rattle.decision.specs.Gather.{extentNo}
+use Rattle.decision.specs.Decided.{planOf}
+use Rattle.decision.specs.Decision.{answerOf, planIn}
+use Rattle.loader.specs.Memory.{segmentWrite, moduleWrite, contentsIn, blockWrite, writesOf, memoryAfter}
+use Rattle.loader.specs.LoadLaws.{Loads, loads, spanIn, countIn, Inside, span-inside, span-apart, kernel-span, one-segment, module-span, block-span, module-length, block-length}
+use Rattle.loader.specs.WriteLaws.{strings-in}
+use Rattle.theorems.specs.Promises.{byteAt, moduleSpan, Elsewhere, Written}
+
+module _ (x : Lent) (h : Loads x) where
+  -- the write of each span, in the order of the spans
+  segments : List Write
+  segments = listed (segmentWrite (x .first) (imageIn x) (planIn x .kernel)) (planIn x .kernel .count)
+
+  modules : List Write
+  modules = listed (moduleWrite (x .first) (x .submission) (layoutIn x) (planIn x .modules)) (layoutIn x .count)
+
+  plan-kernel : planIn x .kernel ≡ kernelIn x
+  unfolding planOf
+  plan-kernel = refl
+
+  writes-are : writesOf x ≡ segments ++ modules ++ (blockWrite x ∷ [])
+  unfolding writesOf segments modules
+  writes-are = refl
+
+  length-segments : length segments ≡ kernelIn x .count
+  unfolding segments planOf
+  length-segments = length-listed (segmentWrite (x .first) (imageIn x) (kernelIn x)) (kernelIn x .count)
+
+  length-modules : length modules ≡ layoutIn x .count
+  unfolding modules
+  length-modules = length-listed (moduleWrite (x .first) (x .submission) (layoutIn x) (planIn x .modules)) (layoutIn x .count)
+
+  length-front : length (segments ++ modules) ≡ kernelIn x .count + layoutIn x .count
+  length-front = length-append segments modules ∙ omega (arith, length-segments, length-modules)
+
+  length-writes : length (writesOf x) ≡ countIn x
+  length-writes = rw writes-are (length-append (segments ++ modules) (blockWrite x ∷ []) ∙ omega (arith, length-front))
+
+  segment-write : (i : ℕ) → i < kernelIn x .count → writeAt (writesOf x) i ≡ segmentWrite (x .first) (imageIn x) (kernelIn x) i
+  unfolding segments planOf
+  segment-write i u =
+      rw writes-are
+      (List·getD-append (segments ++ modules) (blockWrite x ∷ []) noWrite i (omega (arith, length-front))
+      ∙ List·getD-append segments modules noWrite i (omega (arith, length-segments))
+      ∙ listed-at (segmentWrite (x .first) (imageIn x) (kernelIn x)) (kernelIn x .count) i noWrite u)
+
+  module-write : (i : ℕ) → i < layoutIn x .count → writeAt (writesOf x) (kernelIn x .count + i) ≡ moduleWrite (x .first) (x .submission) (layoutIn x) (planIn x .modules) i
+  unfolding modules
+  module-write i u =
+      let e : kernelIn x .count + i ≡ length segments + i = omega (arith, length-segments) in
+      rw (writes-are, e)
+      (List·getD-append (segments ++ modules) (blockWrite x ∷ []) noWrite (length segments + i) (omega (arith, length-front, length-segments))
+      ∙ getD-append-add segments modules i noWrite
+      ∙ listed-at (moduleWrite (x .first) (x .submission) (layoutIn x) (planIn x .modules)) (layoutIn x .count) i noWrite u)
+
+  block-write : writeAt (writesOf x) (kernelIn x .count + layoutIn x .count) ≡ blockWrite x
+  block-write = rw writes-are (getD-at (segments ++ modules) (blockWrite x) [] noWrite (kernelIn x .count + layoutIn x .count) length-front)
+
+  -- the write of a span begins at its start, and is as long
+  record WriteOf (j : ℕ) : Type 0 where
+    at : writeAt (writesOf x) j .at ≡ spanIn x j .start .0 - x .first
+    size : length (writeAt (writesOf x) j .bytes) ≡ spanIn x j .end .0 - spanIn x j .start .0
+
+  segment-size : length (segmentWrite (x .first) (imageIn x) (kernelIn x) 0 .bytes) ≡ segmentNo (kernelIn x) 0 .end .0 - segmentNo (kernelIn x) 0 .start .0
+  unfolding segmentWrite
+  segment-size =
+      let k = accepted (imageIn x) (h .passed .image) in
+      let s = segmentNo (kernelIn x) 0 in
+      let p : Part = record { at = s .offset .0; len = s .loaded .0 - s .start .0 } in
+      length-append (bytesOf (imageIn x) p) (zeros (s .end .0 - s .loaded .0))
+      ∙ omega (arith, length-bytesOf (imageIn x) p (k .inside), length-replicate {A = ℕ} (s .end .0 - s .loaded .0) 0, k .low, k .high, k .end)
+
+  segment-of : (j : ℕ) → j < kernelIn x .count → WriteOf j
+  unfolding segmentWrite
+  segment-of j u =
+      let z : j ≡ 0 = omega (arith, one-segment x h) in
+      let s : spanIn x j ≡ extentNo (kernelIn x) 0 = kernel-span x h j u ∙ ap (extentNo (kernelIn x)) z in
+      let e : writeAt (writesOf x) j ≡ segmentWrite (x .first) (imageIn x) (kernelIn x) 0 = segment-write j u ∙ ap (segmentWrite (x .first) (imageIn x) (kernelIn x)) z in
+      record { at = rw (e, s) refl; size = rw (e, s) segment-size }
+
+  module-of : (i : ℕ) → i < layoutIn x .count → WriteOf (kernelIn x .count + i)
+  unfolding moduleWrite
+  module-of i u =
+      let m : i < moduleCount (x .submission) = omega (arith, layout-count (x .submission)) in
+      let e = module-at (x .submission) i m in
+      let d = data-inside (x .submission) (h .passed .submission) i m in
+      let n = module-length x h i u in
+      let p = ap (λ (t : Span). t .start .0) (module-span x h i u) in
+      record {
+        at = rw (module-write i u, module-span x h i u) refl;
+        size = rw (module-write i u) (length-bytesOf (x .submission) (moduleNo (layoutIn x) i .«data») (rw e d) ∙ omega arith);
+      }
+
+  block-of : WriteOf (kernelIn x .count + layoutIn x .count)
+  unfolding blockWrite contentsIn
+  block-of =
+      let p = ap (λ (t : Span). t .start .0) (block-span x h) in
+      let q = ap (λ (t : Span). t .end .0) (block-span x h) in
+      let n = block-length x h in
+      record {
+        at = rw block-write (ap (λ (a : ℕ). a - x .first) p);
+        size = rw block-write (length-load (x .submission) (layoutIn x) (planIn x .modules) (x .map) (lineIn x) _ _ _ (strings-in x h) ∙ omega arith);
+      }
+
+  write-of : (j : ℕ) → j < countIn x → WriteOf j
+  write-of j l =
+      ⊎-elim
+      (λ (u : j < kernelIn x .count). segment-of j u)
+      (λ (u : kernelIn x .count ≤ j).
+      let e : kernelIn x .count + (j - kernelIn x .count) ≡ j = omega arith in
+      ⊎-elim
+      (λ (v : j - kernelIn x .count < layoutIn x .count). rw e at (module-of (j - kernelIn x .count) v))
+      (λ (v : layoutIn x .count ≤ j - kernelIn x .count). let f : kernelIn x .count + layoutIn x .count ≡ j = omega arith in rw f at block-of)
+      (lt-or-le (j - kernelIn x .count) (layoutIn x .count)))
+      (lt-or-le j (kernelIn x .count))
+
+  -- a write reaches an address only if its span holds it
+  holds-of : (j : ℕ) → j < countIn x → (a : ℕ) → x .first ≤ a → Covers (writeAt (writesOf x) j) (a - x .first) → Holds (spanIn x j) a
+  holds-of j l a u c =
+      let o = write-of j l in
+      let i = span-inside x h j l in
+      (omega (arith, o .at, o .size, i .some, i .low), omega (arith, o .at, o .size, i .some, i .low))
+
+  covers-of : (j : ℕ) → j < countIn x → (a : ℕ) → Holds (spanIn x j) a → Covers (writeAt (writesOf x) j) (a - x .first)
+  covers-of j l a m =
+      let o = write-of j l in
+      let i = span-inside x h j l in
+      (omega (arith, o .at, o .size, i .low), omega (arith, o .at, o .size, i .low))
+
+  module _ (w : List ℕ) (n : length w ≡ x .size) (load : isLoad (answerOf x) ≡ true) where
+    memory-is : memoryAfter x w ≡ written w (writesOf x)
+    unfolding memoryAfter
+    memory-is = rw load refl
+
+    -- the byte of a span is its write's
+    byte-in : (j : ℕ) → j < countIn x → (a : ℕ) → Holds (spanIn x j) a → byteAt x w a ≡ getD (writeAt (writesOf x) j .bytes) (a - spanIn x j .start .0) 0
+    byte-in j l a m =
+        let o = write-of j l in
+        let i = span-inside x h j l in
+        let e : a - x .first - writeAt (writesOf x) j .at ≡ a - spanIn x j .start .0 = omega (arith, o .at, i .low) in
+        ap (λ (v : List ℕ). getD v (a - x .first) 0) memory-is
+        ∙ written-inside w (writesOf x) j (a - x .first) 0 (omega (arith, length-writes)) (omega (arith, i .low, i .high)) (covers-of j l a m)
+        (λ k u v c. span-apart x h j k u (omega (arith, length-writes)) a m (holds-of k (omega (arith, length-writes)) a (omega (arith, i .low)) c))
+        ∙ ap (λ (k : ℕ). getD (writeAt (writesOf x) j .bytes) k 0) e
+
+    -- the byte of no span is what was there
+    byte-out : (a : ℕ) → x .first ≤ a → ((j : ℕ) → j < countIn x → Holds (spanIn x j) a → ⊥) → byteAt x w a ≡ getD w (a - x .first) 0
+    byte-out a u m =
+        ap (λ (v : List ℕ). getD v (a - x .first) 0) memory-is
+        ∙ written-outside w (writesOf x) (a - x .first) 0 (λ j l c. m j (omega (arith, length-writes)) (holds-of j (omega (arith, length-writes)) a u c))
+
+    part-byte : (s : List ℕ) (p : Part) (i : ℕ) → i < p .len → getD (bytesOf s p) i 0 ≡ getD s (p .at + i) 0
+    part-byte s p i l = getD-take (p .len) (drop (p .at) s) i 0 l ∙ getD-drop (p .at) s i 0
+
+    -- the kernel has one segment, whose load bytes lie inside the image
+    module _ (i : ℕ) (u : i < kernelIn x .count) (a : ℕ) where
+      s : Segment
+      s = segmentNo (kernelIn x) i
+
+      p : Part
+      unfolding s
+      p = record { at = s .offset .0; len = s .loaded .0 - s .start .0 }
+
+      zero-index : i ≡ 0
+      zero-index = omega (arith, one-segment x h)
+
+      ordered : (s .start .0 ≤ s .loaded .0) × (s .loaded .0 ≤ s .end .0)
+      unfolding s
+      ordered =
+          let k = accepted (imageIn x) (h .passed .image) in
+          rw zero-index (omega (arith, k .low, k .high), k .end)
+
+      in-image : segmentNo (kernelIn x) i .offset .0 + (segmentNo (kernelIn x) i .loaded .0 - segmentNo (kernelIn x) i .start .0) ≤ length (imageIn x)
+      in-image = rw zero-index (accepted (imageIn x) (h .passed .image) .inside)
+
+      length-part : length (bytesOf (imageIn x) p) ≡ p .len
+      unfolding s p
+      length-part = length-bytesOf (imageIn x) p in-image
+
+      in-span : s .start .0 ≤ a → a < s .end .0 → byteAt x w a ≡ getD (bytesOf (imageIn x) p ++ zeros (s .end .0 - s .loaded .0)) (a - s .start .0) 0
+      unfolding s p segmentWrite
+      in-span l m =
+          let e = kernel-span x h i u in
+          byte-in i (omega arith) a (rw e (l, m)) ∙ rw (segment-write i u, e) refl
+
+      loaded-byte : s .start .0 ≤ a → a < s .loaded .0 → byteAt x w a ≡ getD (imageIn x) (s .offset .0 + (a - s .start .0)) 0
+      unfolding s p
+      loaded-byte l m =
+          in-span l (omega (arith, ordered .1))
+          ∙ List·getD-append (bytesOf (imageIn x) p) (zeros (s .end .0 - s .loaded .0)) 0 (a - s .start .0) (omega (arith, length-part))
+          ∙ part-byte (imageIn x) p (a - s .start .0) (omega arith)
+
+      bss-byte : s .loaded .0 ≤ a → a < s .end .0 → byteAt x w a ≡ 0
+      unfolding s p
+      bss-byte l m =
+          let e : a - s .start .0 ≡ length (bytesOf (imageIn x) p) + (a - s .loaded .0) = omega (arith, length-part, ordered .0) in
+          in-span (omega (arith, ordered .0)) m
+          ∙ ap (λ (k : ℕ). getD (bytesOf (imageIn x) p ++ zeros (s .end .0 - s .loaded .0)) k 0) e
+          ∙ getD-append-add (bytesOf (imageIn x) p) (zeros (s .end .0 - s .loaded .0)) (a - s .loaded .0) 0
+          ∙ getD-replicate (s .end .0 - s .loaded .0) (a - s .loaded .0) 0 0 (omega arith)
+
+    module-byte : (i : ℕ) → i < layoutIn x .count → (a : ℕ) → Holds (moduleSpan x i) a → byteAt x w a ≡ getD (x .submission) (moduleNo (layoutIn x) i .«data» .at + (a - moduleSpan x i .start .0)) 0
+    unfolding moduleWrite
+    module-byte i u a m =
+        let e = module-span x h i u in
+        let n = module-length x h i u in
+        let q : Holds (spanIn x (kernelIn x .count + i)) a = rw e at m in
+        byte-in (kernelIn x .count + i) (omega arith) a q
+        ∙ rw (module-write i u, e) (part-byte (x .submission) (moduleNo (layoutIn x) i .«data») (a - spanIn x (kernelIn x .count + i) .start .0) (omega arith))
+
+    block-byte : (a : ℕ) → Holds (planIn x .block) a → byteAt x w a ≡ getD (blockOf (contentsIn x)) (a - planIn x .block .start .0) 0
+    unfolding blockWrite
+    block-byte a m =
+        let e = block-span x h in
+        byte-in (kernelIn x .count + layoutIn x .count) (omega arith) a (rw e at m) ∙ rw (block-write, e) refl
+
+    elsewhere-byte : (a : ℕ) → x .first ≤ a → Elsewhere x a → byteAt x w a ≡ getD w (a - x .first) 0
+    elsewhere-byte a l o =
+        byte-out a l
+        (λ j u m.
+        ⊎-elim
+        (λ (v : j < kernelIn x .count). o .kernel j v (rw (kernel-span x h j v) at m))
+        (λ (v : kernelIn x .count ≤ j).
+        let e : j ≡ kernelIn x .count + (j - kernelIn x .count) = omega arith in
+        ⊎-elim
+        (λ (z : j - kernelIn x .count < layoutIn x .count). o .modules (j - kernelIn x .count) z (rw (module-span x h (j - kernelIn x .count) z, ← e) m))
+        (λ (z : layoutIn x .count ≤ j - kernelIn x .count). let f : j ≡ kernelIn x .count + layoutIn x .count = omega arith in o .block (rw (block-span x h, ← f) m))
+        (lt-or-le (j - kernelIn x .count) (layoutIn x .count)))
+        (lt-or-le j (kernelIn x .count)))
+
+    pub written-bytes : Written x w
+    unfolding s
+    written-bytes =
+        record {
+          size = ap length memory-is ∙ length-written w (writesOf x);
+          loaded = λ i u a l m. loaded-byte i u a l m;
+          bss = λ i u a l m. bss-byte i u a l m;
+          modules = module-byte;
+          block = block-byte;
+          elsewhere = λ a l m o. elsewhere-byte a l o;
+        }

@@ -1,0 +1,180 @@
+-- The promises of a load, for every submission, operator's line, memory map and window. x is what is lent, w the window's
+-- bytes before. `loader::load` answers `decisionOf x` and leaves `memoryAfter x w` in the window.
+--     conditions, Answered     1. each answer exactly on its condition, in the order of checks; a refusal touches nothing
+--     Written, ReadBack        2. each byte of the window after a load, and what stands in the information block
+--     Placing                  3. each item at its lowest place, and no room exactly where there is none
+--     Apart                    no byte is shared
+-- That the work always ends is part of what a proved function is. The proofs are in Answers, Bytes and Places.
+-- Assumes nothing.
+use mathlib.Core.Path.{_≡_}
+use mathlib.Core.Bool.{Bool, true, false, not, _||_}
+use mathlib.Core.List.{List, [], _∷_, map}
+use mathlib.Core.Logic.{_↔_}
+use Prim.Native.Nat.{ℕ, _+_, _*_, _-_, _≤_, _<_}
+use lib.Dec.{ltb}
+use lib.ListN.{length, getD}
+use Rattle.submission.specs.Format.{moduleNo}
+use Rattle.laws.specs.Checks.{Check}
+use Rattle.number.specs.Number.{numberAt}
+use Rattle.address.specs.Address.{top, boundaryOf, noSpan}
+use Rattle.address.specs.declared.Span.{Span}
+use Rattle.answer.specs.Answer.{numberOf, itemOf}
+use Rattle.answer.specs.Order.{appliesAt, First}
+use Rattle.answer.specs.declared.Answer.{Answer}
+use Rattle.answer.specs.declared.Answer.the-variants.{NoRoomForModule, NoRoomForInformation}
+use Rattle.submission.specs.Scan.{hasZero}
+use Rattle.submission.specs.Rules.{lineLimit, isSubmission, rulesHold}
+use Rattle.memory_map.specs.Pairs.{badMap, mapOf}
+use Rattle.memory_map.specs.Sizes.{memLower, memUpper}
+use Rattle.image.specs.Header.{header}
+use Rattle.image.specs.Load.{fieldsAt as headerFieldsAt}
+use Rattle.image.specs.Load.{flagsAt, loadOffset, loadLength, loadEnd}
+use Rattle.image.specs.Judged.{noHeader, offsetOf, unknownRequest, noAddresses, cutOff, beforeImage, nothingLeft, pastImage, bssBelow, entryOutside, segmentNo}
+use Rattle.board.specs.Open.{openAt}
+use Rattle.placement.specs.declared.Item.{Item}
+use Rattle.placement.specs.Free.{spanAt}
+use Rattle.placement.specs.FreeLaws.{Holds}
+use Rattle.placement.specs.Order.{itemAt}
+use Rattle.placement.specs.Demand.{Suits, Stands, upTo}
+use Rattle.information.specs.Information.{lowerAt, upperAt, lineAt, countAt, modulesAt, mapLengthAt, mapAt, nameAt, structureSize, entrySize, flagsOf, addressOf, mapOffset, nameOffset, lineOffset, blockOf}
+use Rattle.information.specs.Information.{flagsAt as structureFlagsAt}
+use Rattle.information.specs.Reading.{fieldsAt, stringAddress}
+use Rattle.decision.specs.Lent.{Lent, layoutIn, imageIn, kernelIn, lineIn, boardIn, blockIn}
+use Rattle.decision.specs.Gather.{extentNo, extentsOf, itemsOf}
+use Rattle.decision.specs.Decided.{kernelOpen, noPlan, bootMagic}
+use Rattle.decision.specs.Decision.{checks, answerOf, placedIn, planIn, decisionOf}
+use Rattle.loader.specs.Memory.{contentsIn, memoryAfter}
+
+-- the condition of each refusal, 1 to 17, in the order of checks
+unfoldable pub conditions : Lent → List Bool
+conditions x =
+    let image = imageIn x in
+    let o = offsetOf (header image) in
+    let h = headerFieldsAt image o in
+    let offset = loadOffset h o in
+    let n = loadLength h offset (length image) in
+    not (isSubmission (x .submission))
+    ∷ not (rulesHold (x .submission))
+    ∷ (ltb lineLimit (length (x .operator)) || hasZero (x .operator))
+    ∷ ltb top (x .first + x .size)
+    ∷ badMap (x .map)
+    ∷ noHeader (header image)
+    ∷ unknownRequest (flagsAt image o)
+    ∷ noAddresses (flagsAt image o)
+    ∷ cutOff o (length image)
+    ∷ beforeImage h o
+    ∷ nothingLeft h offset (length image)
+    ∷ pastImage h offset n (length image)
+    ∷ bssBelow h (loadEnd h n)
+    ∷ entryOutside h (loadEnd h n)
+    ∷ not (kernelOpen (boardIn x) (kernelIn x))
+    ∷ ltb (placedIn x .done) (layoutIn x .count)
+    ∷ ltb (placedIn x .done) (layoutIn x .count + 1)
+    ∷ []
+
+-- 1. the answer
+pub record Answered (x : Lent) : Type 0 where
+  -- the checks are these, in this order
+  pub checked : map (λ (c : Check Answer). c .applies) (checks x) ≡ conditions x
+  -- the number k + 1 is given exactly where the condition of the index k is the first that holds
+  pub refusal : (k : ℕ) → (numberOf (decisionOf x .answer) ≡ k + 1) ↔ First (checks x) k
+  -- 0 is given exactly where none holds
+  pub load : (numberOf (decisionOf x .answer) ≡ 0) ↔ ((k : ℕ) → appliesAt (checks x) k ≡ false)
+  -- 16 has the module's index for its item, and every other answer 0
+  pub item : numberOf (decisionOf x .answer) ≡ 16 → itemOf (decisionOf x .answer) ≡ placedIn x .done
+  pub no-item : (numberOf (decisionOf x .answer) ≡ 16 → ⊥) → itemOf (decisionOf x .answer) ≡ 0
+  -- a refusal has a plan of zeros, and leaves the window as it was
+  pub plan : (numberOf (decisionOf x .answer) ≡ 0 → ⊥) → decisionOf x .plan ≡ noPlan
+  pub window : (numberOf (decisionOf x .answer) ≡ 0 → ⊥) → (w : List ℕ) → memoryAfter x w ≡ w
+
+-- the byte at an address of the window after a load
+abbrev pub byteAt : Lent → List ℕ → ℕ → ℕ
+byteAt x w a = getD (memoryAfter x w) (a - x .first) 0
+
+-- the span of a module in the plan
+abbrev pub moduleSpan : Lent → ℕ → Span
+moduleSpan x i = getD (planIn x .modules) i noSpan
+
+-- the address belongs to nothing of the load
+pub record Elsewhere (x : Lent) (a : ℕ) : Type 0 where
+  pub kernel : (i : ℕ) → i < kernelIn x .count → Holds (extentNo (kernelIn x) i) a → ⊥
+  pub modules : (i : ℕ) → i < layoutIn x .count → Holds (moduleSpan x i) a → ⊥
+  pub block : Holds (planIn x .block) a → ⊥
+
+-- 2. the window after a load
+pub record Written (x : Lent) (w : List ℕ) : Type 0 where
+  pub size : length (memoryAfter x w) ≡ length w
+  -- the kernel's load bytes, zeros over its bss, the modules, the information block, and everywhere else what was there
+  pub loaded : (i : ℕ) → i < kernelIn x .count → (a : ℕ) → segmentNo (kernelIn x) i .start .0 ≤ a → a < segmentNo (kernelIn x) i .loaded .0
+      → byteAt x w a ≡ getD (imageIn x) (segmentNo (kernelIn x) i .offset .0 + (a - segmentNo (kernelIn x) i .start .0)) 0
+  pub bss : (i : ℕ) → i < kernelIn x .count → (a : ℕ) → segmentNo (kernelIn x) i .loaded .0 ≤ a → a < segmentNo (kernelIn x) i .end .0 → byteAt x w a ≡ 0
+  pub modules : (i : ℕ) → i < layoutIn x .count → (a : ℕ) → Holds (moduleSpan x i) a
+      → byteAt x w a ≡ getD (x .submission) (moduleNo (layoutIn x) i .«data» .at + (a - moduleSpan x i .start .0)) 0
+  pub block : (a : ℕ) → Holds (planIn x .block) a → byteAt x w a ≡ getD (blockOf (contentsIn x)) (a - planIn x .block .start .0) 0
+  pub elsewhere : (a : ℕ) → x .first ≤ a → a < x .first + x .size → Elsewhere x a → byteAt x w a ≡ getD w (a - x .first) 0
+
+-- the number of four bytes at an offset of the information block, found by the value handed over in EBX
+abbrev pub wordAt : Lent → List ℕ → ℕ → ℕ
+wordAt x w k = numberAt 4 (memoryAfter x w) (planIn x .ebx - x .first + k)
+
+-- what a kernel finds there, and what else it is handed
+pub record ReadBack (x : Lent) (w : List ℕ) : Type 0 where
+  pub eax : planIn x .eax ≡ bootMagic
+  pub ebx : planIn x .ebx ≡ planIn x .block .start .0
+  pub entry : (segmentNo (kernelIn x) 0 .start .0 ≤ kernelIn x .entry .0) × (kernelIn x .entry .0 < segmentNo (kernelIn x) 0 .loaded .0)
+  pub flags : wordAt x w structureFlagsAt ≡ flagsOf (length (lineIn x))
+  pub lower : wordAt x w lowerAt ≡ memLower (mapOf (x .map))
+  pub upper : wordAt x w upperAt ≡ memUpper (mapOf (x .map))
+  pub line : wordAt x w lineAt ≡ addressOf (planIn x .ebx + lineOffset (layoutIn x .count) (length (x .map))) (length (lineIn x))
+  pub count : wordAt x w countAt ≡ layoutIn x .count
+  pub modules : wordAt x w modulesAt ≡ planIn x .ebx + structureSize
+  pub extent : wordAt x w mapLengthAt ≡ length (x .map)
+  pub pairs : wordAt x w mapAt ≡ planIn x .ebx + mapOffset (layoutIn x .count)
+  pub name : wordAt x w nameAt ≡ planIn x .ebx + nameOffset (layoutIn x .count) (length (x .map))
+  pub zeros : (k : ℕ) → k < 22 → ((i : ℕ) → i < length fieldsAt → getD fieldsAt i 0 ≡ 4 * k → ⊥) → wordAt x w (4 * k) ≡ 0
+  -- the entry of each module: its start, its end, the address of its string, and 0
+  pub starts : (i : ℕ) → i < layoutIn x .count → wordAt x w (structureSize + entrySize * i) ≡ moduleSpan x i .start .0
+  pub ends : (i : ℕ) → i < layoutIn x .count → wordAt x w (structureSize + entrySize * i + 4) ≡ moduleSpan x i .end .0
+  pub strings : (i : ℕ) → i < layoutIn x .count → wordAt x w (structureSize + entrySize * i + 8) ≡ stringAddress (contentsIn x) i
+  pub reserved : (i : ℕ) → i < layoutIn x .count → wordAt x w (structureSize + entrySize * i + 12) ≡ 0
+
+-- none of checks 1 to 15 applies
+abbrev pub Reached : Lent → Type 0
+Reached x = (k : ℕ) → k < 15 → appliesAt (checks x) k ≡ false
+
+-- the items of a load, and the address that one of them takes beside the kernel's extents and the items before it
+abbrev pub itemIn : Lent → ℕ → Item
+itemIn x i = itemAt (itemsOf (layoutIn x) (kernelIn x .pages) (blockIn x)) i
+
+abbrev pub SuitsIn : Lent → ℕ → ℕ → Type 0
+SuitsIn x i a = Suits (openAt (boardIn x)) (upTo (placedIn x .spans) (kernelIn x .count + i)) (itemIn x i) a
+
+-- 3. the places of the modules and of the information block
+pub record Placing (x : Lent) : Type 0 where
+  -- the items are the modules from index 0, then the information block
+  pub modules : (i : ℕ) → i < layoutIn x .count → itemIn x i ≡ record { length = moduleNo (layoutIn x) i .«data» .len; boundary = boundaryOf (kernelIn x .pages) }
+  pub block : itemIn x (layoutIn x .count) ≡ record { length = blockIn x; boundary = boundaryOf false }
+  -- the spans placed come behind the kernel's extents
+  pub kernel : (j : ℕ) → j < kernelIn x .count → spanAt (placedIn x .spans) j ≡ extentNo (kernelIn x) j
+  -- each item placed stands at the lowest address that suits it
+  pub lowest : (i : ℕ) → i < placedIn x .done → Stands (openAt (boardIn x)) (placedIn x .spans) (kernelIn x .count + i) (itemIn x i)
+  -- with the items before it placed, no room is answered for an item exactly where no address suits it
+  pub no-room : (i : ℕ) → i < layoutIn x .count → i ≤ placedIn x .done → (answerOf x ≡ NoRoomForModule i) ↔ ((a : ℕ) → SuitsIn x i a → ⊥)
+  pub no-room-block : layoutIn x .count ≤ placedIn x .done → (answerOf x ≡ NoRoomForInformation) ↔ ((a : ℕ) → SuitsIn x (layoutIn x .count) a → ⊥)
+
+-- in a load the plan gives the spans placed, and no two of the kernel's extents, the modules and the block share an address
+pub record Apart (x : Lent) : Type 0 where
+  pub modules : (i : ℕ) → i < layoutIn x .count → moduleSpan x i ≡ spanAt (placedIn x .spans) (kernelIn x .count + i)
+  pub block : planIn x .block ≡ spanAt (placedIn x .spans) (kernelIn x .count + layoutIn x .count)
+  pub past : (i : ℕ) → layoutIn x .count ≤ i → i < 16 → moduleSpan x i ≡ noSpan
+  pub apart : (i j : ℕ) → i < j → j < kernelIn x .count + (layoutIn x .count + 1) → (a : ℕ) → Holds (spanAt (placedIn x .spans) i) a → Holds (spanAt (placedIn x .spans) j) a → ⊥
+  -- the load bytes come before the bss
+  pub loaded : (i : ℕ) → i < kernelIn x .count → (segmentNo (kernelIn x) i .start .0 < segmentNo (kernelIn x) i .loaded .0) × (segmentNo (kernelIn x) i .loaded .0 ≤ segmentNo (kernelIn x) i .end .0)
+
+-- all of it, for what is lent and a window of that size
+pub record Promised (x : Lent) (w : List ℕ) : Type 0 where
+  pub answered : Answered x
+  pub written : numberOf (decisionOf x .answer) ≡ 0 → Written x w
+  pub readBack : numberOf (decisionOf x .answer) ≡ 0 → ReadBack x w
+  pub placing : Reached x → Placing x
+  pub apart : numberOf (decisionOf x .answer) ≡ 0 → Apart x
