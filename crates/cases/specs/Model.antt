@@ -1,0 +1,43 @@
+-- A decision that can be computed: placing goes from edge to edge instead of address by address, and is proved equal.
+--     modelIn, modelDecision    the places and the decision, computed
+--     decision-computes         it is the decision
+-- Assumes nothing.
+use mathlib.Core.Path.{_≡_, refl, sym, ap, _∙_}
+use mathlib.Core.List.{List, _++_}
+use Prim.Native.Nat.{ℕ, _+_, _≤_}
+use Rattle.address.specs.Address.{page}
+use Rattle.memory_map.specs.Usable.{limit}
+use Rattle.placement.specs.declared.Placed.{Placed}
+use Rattle.placement.specs.Model.{computedFrom, items-compute}
+use Rattle.decision.specs.declared.Decision.{Decision}
+use Rattle.decision.specs.Lent.{Lent, layoutIn, kernelIn, boardIn, blockIn}
+use Rattle.decision.specs.Gather.{extentsOf, itemsOf}
+use Rattle.decision.specs.Decided.{kernelChecks, roomChecks, placedBy, planOf, decidedBy}
+use Rattle.decision.specs.Decision.{checks, placedIn, planIn, decisionOf}
+use Rattle.decision.specs.DecisionLaws.{lentChecks, checks-split}
+use Rattle.decision.specs.PlacedLaws.{items-bounded}
+
+unfoldable pub modelIn : Lent → Placed
+modelIn x = computedFrom (boardIn x) (itemsOf (layoutIn x) (kernelIn x .pages) (blockIn x)) (layoutIn x .count + 1) 0 (extentsOf (kernelIn x))
+
+-- the decision where the items are placed so
+unfoldable pub decisionWith : Lent → Placed → Decision
+decisionWith x p =
+    decidedBy (lentChecks x ++ (kernelChecks (boardIn x) (kernelIn x) ++ roomChecks (p .done) (layoutIn x .count)))
+    (planOf (kernelIn x) (p .spans) (layoutIn x .count))
+
+unfoldable pub modelDecision : Lent → Decision
+modelDecision x = decisionWith x (modelIn x)
+
+module _ (x : Lent) (small : x .first + x .size + page ≤ limit) where
+  placed-computes : placedIn x ≡ modelIn x
+  unfolding placedBy modelIn itemsOf
+  placed-computes = items-compute (boardIn x) (itemsOf (layoutIn x) (kernelIn x .pages) (blockIn x)) small (items-bounded (layoutIn x) (kernelIn x .pages) (blockIn x)) (extentsOf (kernelIn x))
+
+  decision-with : decisionOf x ≡ decisionWith x (placedIn x)
+  unfolding decisionOf decisionWith
+  decision-with = rw (checks-split x) refl
+
+  pub decision-computes : decisionOf x ≡ modelDecision x
+  unfolding modelDecision
+  decision-computes = decision-with ∙ ap (decisionWith x) placed-computes
