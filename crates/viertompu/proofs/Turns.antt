@@ -1,0 +1,65 @@
+-- One turn of each loop, and the parts of a plan one behind the other.
+--     segment-written, module-written    the words of a segment more, of a module more
+--     plan-written                       head, segments and modules over zeros
+-- Assumes nothing.
+use mathlib.Core.Path.{_≡_, refl, sym, ap, _∙_}
+use mathlib.Core.List.{List, [], _∷_, _++_, append-assoc}
+use Prim.Native.Nat.{ℕ, suc, _+_, _*_, _≤_}
+use native.Mathlib.Nat.{zero-add}
+use native.Mathlib.Omega.{arith}
+use lib.ListN.{length, set, drop, length-append}
+use Rattle.memory.specs.Patched.{patched, zeros}
+use Rattle.memory.specs.PatchedLaws.{patched-append, patched-split}
+use Rattle.address.specs.declared.Span.{Span}
+use Rattle.image.specs.declared.Kernel.{Kernel}
+use Rattle.decision.specs.declared.Decision.{Decision}
+use Rattle.viertompu.specs.Rows.{rows}
+use Rattle.viertompu.specs.RowLaws.{stored, length-rows, row-written}
+use Rattle.viertompu.specs.Words.{planLength, segmentSize, moduleSize, segmentsAt, modulesAt, places, headWords, segmentWords, moduleWords, segmentsWords, modulesWords, planWords}
+
+two-stored : (u : List ℕ) (at x y : ℕ) → set (set u at x) (at + 1) y ≡ patched u at (x ∷ y ∷ [])
+two-stored u at x y =
+    let e : at + 1 ≡ suc at = omega arith in
+    rw e (stored u at (x ∷ y ∷ []))
+
+three-stored : (u : List ℕ) (at x y z : ℕ) → set (set (set u at x) (at + 1) y) (at + 2) z ≡ patched u at (x ∷ y ∷ z ∷ [])
+three-stored u at x y z =
+    let e : at + 1 ≡ suc at = omega arith in
+    let f : at + 2 ≡ suc (suc at) = omega arith in
+    rw (e, f) (stored u at (x ∷ y ∷ z ∷ []))
+
+pub segment-written : (w : List ℕ) (k : Kernel) (i : ℕ) (u : List ℕ) (x y z : ℕ)
+    → u ≡ patched w segmentsAt (rows (segmentWords k) i) → x ∷ y ∷ z ∷ [] ≡ segmentWords k i
+    → set (set (set u (segmentsAt + segmentSize * i) x) (segmentsAt + segmentSize * i + 1) y) (segmentsAt + segmentSize * i + 2) z ≡ patched w segmentsAt (rows (segmentWords k) (i + 1))
+segment-written w k i u x y z p q =
+    row-written (segmentWords k) w segmentsAt i (segmentsAt + segmentSize * i) u _ (omega (arith, length-rows (segmentWords k) segmentSize (λ j. refl) i)) p
+    (three-stored u (segmentsAt + segmentSize * i) x y z ∙ ap (patched u (segmentsAt + segmentSize * i)) q)
+
+pub module-written : (w : List ℕ) (m : List Span) (i : ℕ) (u : List ℕ) (x y : ℕ)
+    → u ≡ patched w modulesAt (rows (moduleWords m) i) → x ∷ y ∷ [] ≡ moduleWords m i
+    → set (set u (modulesAt + moduleSize * i) x) (modulesAt + moduleSize * i + 1) y ≡ patched w modulesAt (rows (moduleWords m) (i + 1))
+module-written w m i u x y p q =
+    row-written (moduleWords m) w modulesAt i (modulesAt + moduleSize * i) u _ (omega (arith, length-rows (moduleWords m) moduleSize (λ j. refl) i)) p
+    (two-stored u (modulesAt + moduleSize * i) x y ∙ ap (patched u (modulesAt + moduleSize * i)) q)
+
+-- three parts over zeros, one behind the other
+parts-written : (h s m t u v : List ℕ) → length h ≡ segmentsAt → length s ≡ segmentSize * places → length m ≡ moduleSize * places
+    → t ≡ patched (zeros planLength) 0 h → u ≡ patched t segmentsAt s → v ≡ patched u modulesAt m
+    → v ≡ h ++ s ++ m ++ zeros 8
+parts-written h s m t u v a b c p q r =
+    let l : length (h ++ s) ≡ modulesAt = length-append h s ∙ omega arith in
+    let n : length ((h ++ s) ++ m) ≡ 88 = length-append (h ++ s) m ∙ omega arith in
+    let e : u ≡ patched (zeros planLength) 0 (h ++ s) = rw (q, p, ← a) (rw zero-add at (patched-append (zeros planLength) 0 h s)) in
+    let f : v ≡ patched (zeros planLength) 0 ((h ++ s) ++ m) = rw (r, e, ← l) (rw zero-add at (patched-append (zeros planLength) 0 (h ++ s) m)) in
+    f ∙ patched-split (zeros planLength) 0 ((h ++ s) ++ m) (omega arith) ∙ rw (zero-add, n, append-assoc, append-assoc) refl
+
+pub plan-written : (d : Decision) (t u v : List ℕ)
+    → t ≡ patched (zeros planLength) 0 (headWords d)
+    → u ≡ patched t segmentsAt (segmentsWords (d .plan .kernel))
+    → v ≡ patched u modulesAt (modulesWords (d .plan .modules))
+    → v ≡ planWords d
+unfolding headWords planWords
+plan-written d t u v =
+    parts-written (headWords d) (segmentsWords (d .plan .kernel)) (modulesWords (d .plan .modules)) t u v refl
+    (length-rows (segmentWords (d .plan .kernel)) segmentSize (λ j. refl) places)
+    (length-rows (moduleWords (d .plan .modules)) moduleSize (λ j. refl) places)

@@ -1,0 +1,23 @@
+-- `viertompu::write_plan` meets its contract: head, segments and modules, one behind the other, over zeros.
+-- Assumes nothing.
+use Rattle.viertompu.proofs.Turns.{plan-written}
+use borrow.Author.Needs.{needs}
+use Rattle.viertompu.proofs.write_plan.Statement.{statement}
+use Rattle.viertompu.proofs.write_plan.Tie as tie
+
+write-head-requires : tie.Need-write-head-requires
+write-head-requires c κs = search needs
+
+write-segments-requires : tie.Need-write-segments-requires
+write-segments-requires c κs = search needs
+
+write-modules-requires : tie.Need-write-modules-requires
+write-modules-requires c κs = search needs
+
+returns : tie.Need-returns
+returns c =
+    plan-written (c .before .before .before .before .before .before .before .before .before .args .decision) _ _ _ (c .before .before .before .before .before .before .write-head .ensures) (c .before .before .before .write-segments .ensures) (c .write-modules .ensures)
+
+pub write-plan-spec : {M : Type 1} → statement M
+write-plan-spec =
+    tie.close (tie.spec write-head-requires write-segments-requires write-modules-requires returns)

@@ -1,0 +1,72 @@
+-- The plan as words.                                                                                    rule: PLAN
+--     planLength, segmentsAt, modulesAt            how many words there are, and where segments and modules begin
+--     segmentSize, moduleSize, places              the words of one, and how many of them have a place
+--     wordOf                                       an address or an offset as a word
+--     headWords, segmentWords, moduleWords         the words before the segments, of one segment, of one module
+--     segmentsWords, modulesWords                  of all segments, of all modules
+--     planWords                                    all words of a decision
+-- Assumes nothing.
+use mathlib.Core.List.{List, [], _∷_, _++_}
+use Prim.Native.Nat.{ℕ, _%_, _^_}
+use lib.ListN.{getD}
+use Rattle.image.specs.Judged.{segmentNo}
+use Rattle.address.specs.Address.{noSpan}
+use Rattle.memory.specs.Patched.{zeros}
+use Rattle.address.specs.declared.Span.{Span}
+use Rattle.answer.specs.Answer.{numberOf, itemOf}
+use Rattle.image.specs.declared.Kernel.{Kernel}
+use Rattle.decision.specs.declared.Decision.{Decision}
+use Rattle.viertompu.specs.Rows.{rows}
+
+abbrev pub planLength : ℕ
+planLength = 96
+
+abbrev pub segmentsAt : ℕ
+segmentsAt = 8
+
+abbrev pub modulesAt : ℕ
+modulesAt = 56
+
+abbrev pub segmentSize : ℕ
+segmentSize = 3
+
+abbrev pub moduleSize : ℕ
+moduleSize = 2
+
+abbrev pub places : ℕ
+places = 16
+
+-- in a load every address and the header's offset are below 2^32
+abbrev pub wordOf : ℕ → ℕ
+wordOf a = a % 2 ^ 32
+
+-- number, item, header offset, entry, EAX, EBX, the information block's start and end
+unfoldable pub headWords : Decision → List ℕ
+headWords d =
+    numberOf (d .answer)
+    ∷ itemOf (d .answer)
+    ∷ wordOf (d .plan .kernel .header .0)
+    ∷ wordOf (d .plan .kernel .entry .0)
+    ∷ d .plan .eax
+    ∷ d .plan .ebx
+    ∷ wordOf (d .plan .block .start .0)
+    ∷ wordOf (d .plan .block .end .0)
+    ∷ []
+
+-- start, load end, extent end
+abbrev pub segmentWords : Kernel → ℕ → List ℕ
+segmentWords k i = wordOf (segmentNo k i .start .0) ∷ wordOf (segmentNo k i .loaded .0) ∷ wordOf (segmentNo k i .end .0) ∷ []
+
+-- start, end
+abbrev pub moduleWords : List Span → ℕ → List ℕ
+moduleWords m i = wordOf (getD m i noSpan .start .0) ∷ wordOf (getD m i noSpan .end .0) ∷ []
+
+abbrev pub segmentsWords : Kernel → List ℕ
+segmentsWords k = rows (segmentWords k) places
+
+abbrev pub modulesWords : List Span → List ℕ
+modulesWords m = rows (moduleWords m) places
+
+-- and eight zeros
+unfoldable pub planWords : Decision → List ℕ
+planWords d = headWords d ++ segmentsWords (d .plan .kernel) ++ modulesWords (d .plan .modules) ++ zeros 8
