@@ -1,0 +1,86 @@
+-- `report::write_report` meets its contract: the line of a refusal, or the lines of a load one behind the other.
+-- Assumes nothing.
+use native.Mathlib.Omega.{arith}
+use Rattle.viertompu.specs.RowLaws.{rows-short}
+use Rattle.viertompu.specs.Words.{places}
+use Rattle.report.specs.Report.{lineLimit, numberIn, itemIn, segmentLine, moduleLine}
+use Rattle.report.specs.ReportLaws.{segment-short, module-short, refusal-short, report-of-refusal, report-short}
+use Rattle.report.proofs.Turns.{load-written}
+use borrow.Author.Needs.{needs}
+use Rattle.report.proofs.write_report.Statement.{statement}
+use Rattle.report.proofs.write_report.Tie as tie
+
+element-copy-out-if1 : tie.Need-element-copy-out-if1
+element-copy-out-if1 c = search needs
+
+element-copy-out-write-refusal : tie.Need-element-copy-out-write-refusal
+element-copy-out-write-refusal c = search needs
+
+element-copy-out-write-refusal-2 : tie.Need-element-copy-out-write-refusal-2
+element-copy-out-write-refusal-2 c = search needs
+
+write-refusal-requires : tie.Need-write-refusal-requires
+write-refusal-requires c κs = search needs
+
+same-length : tie.Need-same-length
+same-length c = search needs
+
+returns : tie.Need-returns
+returns c =
+    let p = c .before .before .before .before .before .before .before .before .before .args .plan .now in
+    (rw (← report-of-refusal p (c .before .before .before .before .before .before .if1 .taken)) (c .before .before .write-refusal .ensures), omega (arith, c .before .before .write-refusal .ensures .ends, refusal-short (numberIn p) (itemIn p)))
+
+write-segments-requires : tie.Need-write-segments-requires
+write-segments-requires c κs = search needs
+
+write-modules-requires : tie.Need-write-modules-requires
+write-modules-requires c κs =
+    let p = c .before .before .before .before .before .before .before .before .args .plan .now in
+    omega (arith, c .before .before .before .write-segments .ensures .ends, rows-short (segmentLine p) lineLimit (segment-short p) places)
+
+element-copy-out-t9 : tie.Need-element-copy-out-t9
+element-copy-out-t9 c = search needs
+
+element-copy-out-t27 : tie.Need-element-copy-out-t27
+element-copy-out-t27 c = search needs
+
+slice-aggregate-write-line : tie.Need-slice-aggregate-write-line
+slice-aggregate-write-line c = search needs
+
+slice-aggregate-write-line-2 : tie.Need-slice-aggregate-write-line-2
+slice-aggregate-write-line-2 c = search needs
+
+write-line-requires : tie.Need-write-line-requires
+write-line-requires c κs =
+    let p = c .before .before .before .before .before .before .before .before .before .before .before .before .before .before .before .before .args .plan .now in
+    omega (arith, c .before .before .before .before .before .before .before .before .before .before .before .write-segments .ensures .ends, c .before .before .before .before .before .before .before .write-modules .ensures .ends, rows-short (segmentLine p) lineLimit (segment-short p) places, rows-short (moduleLine p) lineLimit (module-short p) places)
+
+same-length-2 : tie.Need-same-length-2
+same-length-2 c = search needs
+
+returns-2 : tie.Need-returns-2
+returns-2 c =
+    let p = c .before .before .before .before .before .before .before .before .before .before .before .before .before .before .before .before .before .before .before .args .plan .now in
+    let r =
+    load-written p (c .before .before .before .before .before .before .before .before .before .before .before .before .before .before .before .before .before .before .before .args .text .now) _ _ _ _ _ _ (c .before .before .before .before .before .before .before .before .before .before .before .before .before .before .before .before .if1 .left) (c .before .before .before .before .before .before .before .before .before .before .before .before .before .before .write-segments .ensures) (c .before .before .before .before .before .before .before .before .before .before .write-modules .ensures) (c .before .before .write-line .ensures) in
+    (r, omega (arith, r .ends, report-short p))
+
+pub write-report-spec : {M : Type 1} → statement M
+write-report-spec =
+    tie.close
+    (tie.spec
+    element-copy-out-if1
+    element-copy-out-write-refusal
+    element-copy-out-write-refusal-2
+    write-refusal-requires
+    same-length
+    returns
+    write-segments-requires
+    write-modules-requires
+    element-copy-out-t9
+    element-copy-out-t27
+    slice-aggregate-write-line
+    slice-aggregate-write-line-2
+    write-line-requires
+    same-length-2
+    returns-2)

@@ -1,0 +1,117 @@
+// The report on a plan: a line for each segment and module and one for the information block, or one for a refusal. Each
+// function writes its text from an offset on and gives the offset behind it.
+use viertompu::BLOCK_END;
+use viertompu::BLOCK_START;
+use viertompu::ENTRY;
+use viertompu::ITEM;
+use viertompu::MODULE;
+use viertompu::MODULES;
+use viertompu::NUMBER;
+use viertompu::PLACES;
+use viertompu::SEGMENT;
+use viertompu::SEGMENTS;
+use viertompu::WORDS;
+ghost use mathlib.Core.Path.{_≡_};
+ghost use Prim.Native.Nat.{_+_, _*_, _≤_, _<_, _^_};
+ghost use lib.ListN.{length};
+ghost use Rattle.viertompu.specs.Rows.{rows};
+ghost use Rattle.viertompu.specs.Words.{places};
+ghost use Rattle.report.specs.Text.{Wrote};
+ghost use Rattle.report.specs.Report.{lineLimit, reportLimit, lineText, refusalText, segmentLine, moduleLine, reportOf};
+
+pub mod digits;
+
+// No report is longer.
+pub const LIMIT: usize = 1584;
+
+// Writes the report on a plan from the text's first byte on.
+pub fn write_report(text: &mut [u8], plan: &[u32; WORDS]) -> usize
+    ensures { λ r. ⌜ Wrote (now (text .entry)) 0 (reportOf (now (plan .entry))) (now (text .exit)) r ⌝ }
+    ensures { λ r. ⌜ r ≤ reportLimit ⌝ }
+{
+    if plan[NUMBER] != 0 {
+        return write_refusal(text, plan[NUMBER], plan[ITEM]);
+    }
+    let after_segments = write_segments(text, plan);
+    let after_modules = write_modules(text, after_segments, plan);
+    let fields = [plan[BLOCK_START], plan[BLOCK_END]];
+    write_line(text, after_modules, b"info", &fields)
+}
+
+// Writes the number and the item of a refusal.
+fn write_refusal(text: &mut [u8], number: u32, item: u32) -> usize
+    ensures { λ r. ⌜ Wrote (now (text .entry)) 0 (refusalText number item) (now (text .exit)) r ⌝ }
+{
+    memory::write_bytes(text, 0, b"refused ");
+    let after_number = digits::write_decimal(text, 8, number);
+    memory::write_bytes(text, after_number, b" ");
+    let after_item = digits::write_decimal(text, after_number + 1, item);
+    memory::write_bytes(text, after_item, b"\n");
+    after_item + 1
+}
+
+// Writes a line for each segment.
+fn write_segments(text: &mut [u8], plan: &[u32; WORDS]) -> usize
+    ensures { λ r. ⌜ Wrote (now (text .entry)) 0 (rows (segmentLine (now (plan .entry))) places) (now (text .exit)) r ⌝ }
+{
+    let mut next = 0;
+    let mut i = 0;
+    while i < PLACES {
+        next = write_segment(text, next, plan, i);
+        i += 1;
+    }
+    next
+}
+
+// Writes the line of a segment; a place whose segment ends at 0 has none.
+fn write_segment(text: &mut [u8], at: usize, plan: &[u32; WORDS], i: usize) -> usize
+    requires { ⌜ (i < places) × (at + lineLimit < 2 ^ 64) ⌝ }
+    ensures { λ r. ⌜ Wrote (now (text .entry)) at (segmentLine (now (plan .entry)) i) (now (text .exit)) r ⌝ }
+{
+    let from = SEGMENTS + SEGMENT * i;
+    let end = plan[from + 2];
+    if end == 0 {
+        return at;
+    }
+    let fields = [plan[from], plan[from + 1], end, plan[ENTRY]];
+    write_line(text, at, b"kernel", &fields)
+}
+
+// Writes a line for each module.
+fn write_modules(text: &mut [u8], at: usize, plan: &[u32; WORDS]) -> usize
+    requires { ⌜ at + lineLimit * places < 2 ^ 64 ⌝ }
+    ensures { λ r. ⌜ Wrote (now (text .entry)) at (rows (moduleLine (now (plan .entry))) places) (now (text .exit)) r ⌝ }
+{
+    let mut next = at;
+    let mut i = 0;
+    while i < PLACES {
+        next = write_module(text, next, plan, i);
+        i += 1;
+    }
+    next
+}
+
+// Writes the line of a module with its index; a place whose module ends at 0 has none.
+fn write_module(text: &mut [u8], at: usize, plan: &[u32; WORDS], i: usize) -> usize
+    requires { ⌜ (i < places) × (at + lineLimit < 2 ^ 64) ⌝ }
+    ensures { λ r. ⌜ Wrote (now (text .entry)) at (moduleLine (now (plan .entry)) i) (now (text .exit)) r ⌝ }
+{
+    let from = MODULES + MODULE * i;
+    let end = plan[from + 1];
+    if end == 0 {
+        return at;
+    }
+    memory::write_bytes(text, at, b"module ");
+    let after_index = digits::write_decimal(text, at + 7, i as u32);
+    let fields = [plan[from], end];
+    digits::write_fields(text, after_index, &fields)
+}
+
+// Writes a line: a word, and numbers in hexadecimal digits.
+fn write_line(text: &mut [u8], at: usize, label: &[u8], fields: &[u32]) -> usize
+    requires { ⌜ at + length (now label) + 9 * length (now fields) + 1 < 2 ^ 64 ⌝ }
+    ensures { λ r. ⌜ Wrote (now (text .entry)) at (lineText (now (label .entry)) (now (fields .entry))) (now (text .exit)) r ⌝ }
+{
+    memory::write_bytes(text, at, label);
+    digits::write_fields(text, at + label.len(), fields)
+}

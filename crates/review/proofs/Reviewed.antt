@@ -1,0 +1,24 @@
+-- A load on the board, reported.
+--     map-is      the map's bytes are the board's
+--     reviewed    the report on the plan of a load on the board is the review
+-- Assumes nothing.
+use mathlib.Core.Path.{_≡_, refl}
+use mathlib.Core.List.{List, [], _∷_}
+use Prim.Native.Nat.{ℕ}
+use Rattle.number.specs.Number.{numberBytes}
+use Rattle.decision.specs.Lent.{Lent}
+use Rattle.decision.specs.Decision.{decisionOf}
+use Rattle.viertompu.specs.Words.{planWords}
+use Rattle.report.specs.Text.{Wrote}
+use Rattle.report.specs.Report.{reportOf}
+use Rattle.review.specs.Review.{pairBytes, boardMap, firstAddress, windowLength, reviewOf}
+
+pub map-is : 20 ∷ 0 ∷ 0 ∷ 0 ∷ 0 ∷ 0 ∷ 0 ∷ 0 ∷ 0 ∷ 0 ∷ 0 ∷ 0 ∷ 0 ∷ 0xFC ∷ 0x09 ∷ 0 ∷ 0 ∷ 0 ∷ 0 ∷ 0 ∷ 1 ∷ 0 ∷ 0 ∷ 0 ∷ 20 ∷ 0 ∷ 0 ∷ 0 ∷ 0 ∷ 0 ∷ 0x10 ∷ 0 ∷ 0 ∷ 0 ∷ 0 ∷ 0 ∷ 0 ∷ 0 ∷ 0x70 ∷ 0 ∷ 0 ∷ 0 ∷ 0 ∷ 0 ∷ 1 ∷ 0 ∷ 0 ∷ 0 ∷ [] ≡ boardMap
+unfolding boardMap pairBytes numberBytes
+map-is = refl
+
+pub reviewed : (s m : List ℕ) (n : ℕ) (plan w v : List ℕ) (r : ℕ) → m ≡ boardMap → n ≡ windowLength
+    → plan ≡ planWords (decisionOf (record { submission = s; operator = []; map = m; first = firstAddress; size = n }))
+    → Wrote w 0 (reportOf plan) v r → Wrote w 0 (reviewOf s) v r
+unfolding reviewOf
+reviewed s m n plan w v r e f g h = rw (← e, ← f, ← g) h

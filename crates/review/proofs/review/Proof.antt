@@ -1,0 +1,44 @@
+-- `review::review` meets its contract: the plan of a load on the board, reported.
+-- Assumes nothing.
+use Prim.Native.Nat.{ℕ}
+use lib.ListN.{length-replicate}
+use Rattle.review.specs.Review.{windowLength}
+use Rattle.review.proofs.Reviewed.{map-is, reviewed}
+use borrow.Author.Needs.{needs}
+use Rattle.review.proofs.review.Statement.{statement}
+use Rattle.review.proofs.review.Tie as tie
+
+slice-aggregate-viertompu-load : tie.Need-slice-aggregate-viertompu-load
+slice-aggregate-viertompu-load c = search needs
+
+slice-aggregate-viertompu-load-2 : tie.Need-slice-aggregate-viertompu-load-2
+slice-aggregate-viertompu-load-2 c = search needs
+
+slice-aggregate-viertompu-load-3 : tie.Need-slice-aggregate-viertompu-load-3
+slice-aggregate-viertompu-load-3 c = search needs
+
+viertompu-load-requires : tie.Need-viertompu-load-requires
+viertompu-load-requires c κs = search needs
+
+write-report-requires : tie.Need-write-report-requires
+write-report-requires c κs = search needs
+
+same-length : tie.Need-same-length
+same-length c = search needs
+
+returns : tie.Need-returns
+returns c =
+    let start = c .before .before .before .before .before .before .before .before .before .before .before .before .before in
+    (reviewed (start .args .submission .now) _ _ _ (start .args .text .now) _ _ map-is (length-replicate {A = ℕ} windowLength 0) (c .before .before .before .before .before .before .viertompu-load .ensures .1 .0) (c .before .before .write-report .ensures .0), c .before .before .write-report .ensures .1)
+
+pub review-spec : {M : Type 1} → statement M
+review-spec =
+    tie.close
+    (tie.spec
+    slice-aggregate-viertompu-load
+    slice-aggregate-viertompu-load-2
+    slice-aggregate-viertompu-load-3
+    viertompu-load-requires
+    write-report-requires
+    same-length
+    returns)

@@ -1,0 +1,2 @@
+-- The definition that the contract of `review` cites.
+pub mod Review

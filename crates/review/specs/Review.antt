@@ -1,0 +1,33 @@
+-- What the program prints for a submission.                                                            rule: REVIEW
+--     pairBytes, boardMap              the board's memory map
+--     firstAddress, windowLength       the window
+--     lentWith                         what is lent with a submission
+--     reviewOf                         the report on it
+-- Assumes nothing.
+use mathlib.Core.List.{List, [], _++_}
+use Prim.Native.Nat.{ℕ}
+use Rattle.number.specs.Number.{numberBytes}
+use Rattle.decision.specs.Lent.{Lent}
+use Rattle.decision.specs.Decision.{decisionOf}
+use Rattle.viertompu.specs.Words.{planWords}
+use Rattle.report.specs.Report.{reportOf}
+
+-- a pair of size 20: base, length, and type 1 for usable memory
+unfoldable pub pairBytes : ℕ → ℕ → List ℕ
+pairBytes base length = numberBytes 4 20 ++ numberBytes 8 base ++ numberBytes 8 length ++ numberBytes 4 1
+
+unfoldable pub boardMap : List ℕ
+boardMap = pairBytes 0 0x9FC00 ++ pairBytes 0x100000 0x700000
+
+abbrev pub firstAddress : ℕ
+firstAddress = 0x100000
+
+abbrev pub windowLength : ℕ
+windowLength = 49152
+
+-- no operator's line
+abbrev pub lentWith : List ℕ → Lent
+lentWith s = record { submission = s; operator = []; map = boardMap; first = firstAddress; size = windowLength }
+
+unfoldable pub reviewOf : List ℕ → List ℕ
+reviewOf s = reportOf (planWords (decisionOf (lentWith s)))

@@ -1,0 +1,92 @@
+// Reviews a submission from standard input: loads it on a fixed board and prints where everything lies, or the refusal.
+use libc::STDIN_FILENO;
+use libc::STDOUT_FILENO;
+ghost use Prim.Native.Nat.{_≤_};
+ghost use Rattle.report.specs.Text.{Wrote};
+ghost use Rattle.report.specs.Report.{reportLimit};
+ghost use Rattle.review.specs.Review.{reviewOf};
+
+// The longest submission that is read.
+const INPUT: usize = 12288;
+
+// The board's memory map: usable memory of 0x9FC00 bytes from 0 on, and of 0x700000 bytes from 0x100000 on.
+const MAP: [u8; 48] = [
+    20,
+    0,
+    0,
+    0,
+    0,
+    0,
+    0,
+    0,
+    0,
+    0,
+    0,
+    0,
+    0,
+    0xFC,
+    0x09,
+    0,
+    0,
+    0,
+    0,
+    0,
+    1,
+    0,
+    0,
+    0,
+    20,
+    0,
+    0,
+    0,
+    0,
+    0,
+    0x10,
+    0,
+    0,
+    0,
+    0,
+    0,
+    0,
+    0,
+    0x70,
+    0,
+    0,
+    0,
+    0,
+    0,
+    1,
+    0,
+    0,
+    0,
+];
+
+// The window's first address, and its length.
+const FIRST: u32 = 0x100000;
+
+const WINDOW: usize = 49152;
+
+fn main() {
+    // One byte more than may come, so that a longer input is seen.
+    let mut input = [0; INPUT + 1];
+    let n = io::read_full(STDIN_FILENO, &mut input);
+    if INPUT < n {
+        io::write_all(STDOUT_FILENO, b"input over 12288 bytes\n");
+        return;
+    }
+    let mut text = [0; report::LIMIT];
+    let end = review(&input[..n], &mut text);
+    io::write_all(STDOUT_FILENO, &text[..end]);
+}
+
+// Writes the report on a submission, and gives its length.
+fn review(submission: &[u8], text: &mut [u8]) -> usize
+    ensures { λ r. ⌜ Wrote (now (text .entry)) 0 (reviewOf (now (submission .entry))) (now (text .exit)) r ⌝ }
+    ensures { λ r. ⌜ r ≤ reportLimit ⌝ }
+{
+    let map = MAP;
+    let mut window = [0; WINDOW];
+    let mut plan = [0; viertompu::WORDS];
+    viertompu::viertompu_load(submission, b"", &map, &mut window, FIRST, &mut plan);
+    report::write_report(text, &plan)
+}
