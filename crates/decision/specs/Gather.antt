@@ -1,4 +1,4 @@
--- What is placed, and beside what.                                                                   rule: PLACING
+-- What is placed, and beside what.                                                    rule: PLACING
 --     segmentLimit, segmentNo, extentNo, extentsOf    the kernel's extents
 --     itemNo, itemsOf                                 the modules from index 0, then the information block
 --     moduleSpans                                     the modules' spans among those placed, zeros past the last
