@@ -1,4 +1,4 @@
--- The placing promise in propositions, for all addresses. Start here; the laws named prove it.       rule: PLACING
+-- The placing promise in propositions, for all addresses. Start here.                 rule: PLACING
 --     Suits      an item may be placed at an address
 --     Stands     an item stands at its lowest place beside the spans before it
 --     InOrder    what placing items in order leaves
