@@ -1,4 +1,4 @@
--- Physical addresses.               rules: "The page size 4,096, the floor 0x100000 and the top 0xFFFFF000", boundaries
+-- Physical addresses.                                                               rule: ADDRESSES
 --     page, word, boundaryOf    the boundaries that an item may have
 --     floor, top                where placing begins, and where a window ends at the latest
 --     isMultiple, roundUp       meeting a boundary, and rounding up to it

@@ -1,4 +1,4 @@
--- The numbers and items of the answers.                     rule: the table of numbered answers
+-- The numbers and items of the answers.                                               rule: ANSWERS
 --     numberOf    0 for a load, else the number of the refusal
 --     itemOf      the module's index for 16, else 0
 --     isLoad      no check refuses

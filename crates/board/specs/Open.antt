@@ -1,4 +1,4 @@
--- Which addresses are open.                                                  rule: "Memory: usable and open", open
+-- Which addresses are open.                                                              rule: OPEN
 --     openAt     the address is open
 --     Checked    what checks 4 and 5 have shown of a board
 -- Assumes nothing.

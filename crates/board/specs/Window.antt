@@ -1,4 +1,4 @@
--- The window.                                                                                  rule: check 4
+-- The window.                                                                     rule: ANSWERS (4)
 --     windowChecks    the window's first address plus its length above 0xFFFFF000
 --     windowSpan      the addresses that the window stands for
 -- Assumes nothing.

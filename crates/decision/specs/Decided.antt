@@ -1,4 +1,4 @@
--- The stages of a decision, and what they leave.                                               rules: ANSWERS, PLAN
+-- The stages of a decision, and what they leave.          rules: ANSWERS (15 to 17), PLAN, HANDOVER
 --     kernelOpen, kernelChecks    15: every address of the kernel's extents is open
 --     roomChecks                  16 and 17: each module and the information block found room
 --     bootMagic, planOf, noPlan   the plan of a load, and that of a refusal

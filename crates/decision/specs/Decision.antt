@@ -1,4 +1,4 @@
--- The decision on what is lent: the order of checks, 1 to 17, and the plan.                    rules: ANSWERS, PLAN
+-- The decision on what is lent: the order of checks, 1 to 17, and the plan.    rules: ANSWERS, PLAN
 --     checks       all checks in their order
 --     answerOf     the answer
 --     placedIn     where the modules and the information block go

@@ -2,7 +2,7 @@
 --     Prepared           what the checks before 15 have shown
 --     items-ready        the items may be placed
 --     item-at, item-some the item of an index, which is not empty
---     in-order           demand 3 of the items of a load, beside the kernel's extents
+--     in-order           the placing promise for the items of a load, beside the kernel's extents
 --     span-below         a placed item begins below 2^32
 -- Assumes nothing.
 use mathlib.Core.Path.{_≡_, refl, sym, ap, _∙_}

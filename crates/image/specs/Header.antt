@@ -1,4 +1,4 @@
--- The Multiboot header of an image.                                  rule: header search
+-- The Multiboot header of an image.                                                    rule: HEADER
 --     magic, searched, headerLength    the numbers of the rule
 --     words                            the numbers that bytes make, four by four
 --     isHeader, headerFrom, header     the search, word by word from the front

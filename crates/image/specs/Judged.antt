@@ -1,4 +1,4 @@
--- The answer for an image, and its kernel.                           rule: numbered answers 6 to 14
+-- The answer for an image, and its kernel.                           rules: ANSWERS (6 to 14), LOAD
 --     noHeader, offsetOf                     what the header search found: 6
 --     unknownRequest, noAddresses, cutOff, beforeImage, nothingLeft, pastImage, bssBelow, entryOutside
 --                                            the conditions of 7 to 14

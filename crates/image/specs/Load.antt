@@ -1,4 +1,4 @@
--- The header's fields and the load calculation.                      rule: header and load
+-- The header's fields and the load calculation.                                          rule: LOAD
 --     flagsAt, onPages, fieldsAt, wholeLength    what a header says
 --     loadOffset, loadLength                     which of the image's bytes are loaded
 --     loadEnd, extentEnd                         where the load and the kernel end

@@ -1,4 +1,4 @@
--- The information block as one list of bytes.                                            rule: "Information block"
+-- The information block as one list of bytes.                                           rule: BLOCK
 --     flagsAt to nameAt, structureSize, entrySize    where the fields of the structure stand, and how long the parts are
 --     structureWords                                 the 22 words of the structure, from its fields
 --     Loaded, Contents                               what a block says

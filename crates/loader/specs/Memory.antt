@@ -1,4 +1,4 @@
--- The window after a load.                                                                          rule: WRITING
+-- The window after a load.                                                            rule: WRITING
 --     segmentWrite    a segment: its load bytes, then zeros over its bss
 --     moduleWrite     a module's data
 --     contentsFor, contentsIn, blockWrite    the information block

@@ -1,4 +1,4 @@
--- The pairs of a lent memory map, and the check that it passes.     rules: check 5; "Memory: usable and open", the pairs
+-- The pairs of a lent memory map, and the check that it passes.     rules: MAP, ANSWERS (5)
 --     maxBytes, minSize               the limits of a map, beside that of its pairs
 --     sizeField, baseAt, lengthAt, kindAt    where the fields of a pair stand
 --     pairAt, pairCount               where each pair begins, and how many there are

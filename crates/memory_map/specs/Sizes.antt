@@ -1,4 +1,4 @@
--- The sizes of lower and upper memory.                                     rule: information block, mem_lower and mem_upper
+-- The sizes of lower and upper memory.                                                  rule: SIZES
 --     memLower    the number of consecutive usable addresses from 0 in KiB, at most 640
 --     memUpper    the same from 0x100000, with no cap but 2^32
 -- Assumes nothing.

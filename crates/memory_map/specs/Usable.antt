@@ -1,4 +1,4 @@
--- Which addresses are usable.                                              rule: "Memory: usable and open", usable
+-- Which addresses are usable.                                                    rules: MAP, USABLE
 --     ram, limit, maxPairs    the type of usable memory, where usable addresses end, and how many pairs a map has at most
 --     noPair, pairNo          a pair of zeros, and the pair of an index
 --     covers                  the pair covers the address

@@ -1,4 +1,4 @@
--- Little-endian numbers, at any width.                     rule: all numbers are little-endian
+-- Little-endian numbers, at any width.                                                rule: NUMBERS
 --     number, numberAt    the number that bytes make
 --     numberBytes         the bytes of a number
 --     wordBytes           the bytes of a row of 32-bit words

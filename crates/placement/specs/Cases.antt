@@ -1,4 +1,4 @@
--- Placing, case by case: the starred ones on the review program's board, and some on other maps, about the definitions.
+-- Placing, case by case, about the definitions: those of the kernel B1 on the review program's board, and some on other maps.
 --     Case, Right      a case, and that it comes out as it says
 --     table, cases     the cases, as one statement over one table
 -- Assumes nothing.

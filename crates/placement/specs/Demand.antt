@@ -1,4 +1,4 @@
--- Demand 3 in propositions, for all addresses. Start here: these are the promises of placing; the laws named prove them.
+-- The placing promise in propositions, for all addresses. Start here.                 rule: PLACING
 --     Suits      an item may be placed at an address
 --     Stands     an item stands at its lowest place beside the spans before it
 --     InOrder    what placing items in order leaves

@@ -1,4 +1,4 @@
--- Demand 3 holds.
+-- The placing promise holds.
 --     in-order      placing the items in order leaves what InOrder says, over any test of open addresses that ends at 2^32
 --     placed-open   over the memory of a board each item lies in usable memory inside the window
 -- Assumes nothing.

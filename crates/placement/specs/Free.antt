@@ -1,4 +1,4 @@
--- Which addresses are free, over any test of open addresses.                   rule: demand 3, "shares no byte with"
+-- Which addresses are free, over any test of open addresses.                          rule: PLACING
 --     maxSpans    how many spans there are at most: those of 16 kernel extents and 17 items
 --     takenAt     the address lies in a span taken
 --     freeAt      the address is open and in no span taken

@@ -1,4 +1,4 @@
--- The lowest place of an item, over any test of open addresses.                                 rule: demand 3
+-- The lowest place of an item, over any test of open addresses.                       rule: PLACING
 --     fits           the address meets the boundary, and each address of the item from it on is free
 --     lowestPlace    the lowest address from the floor up at which the item fits, or no room
 -- Assumes nothing.

@@ -1,4 +1,4 @@
--- The items of a load placed in order.                                                            rule: demand 3
+-- The items of a load placed in order.                                                            rule: PLACING
 --     maxItems              how many items there are at most: 16 modules and the information block
 --     noItem, itemAt        an item of zeros, and the item of an index
 --     spanOf, withSpan      the span of an item at its place, and the spans with one more

@@ -1,4 +1,4 @@
--- The operator's line, and the command line in force.           rule: the submission, the table of numbered answers
+-- The operator's line, and the command line in force.                      rules: LINE, ANSWERS (3)
 --     operatorChecks      3
 --     commandLine         the command line in force
 -- Assumes nothing.

@@ -1,4 +1,4 @@
--- The KSB format, version 1: its fields, and where its parts lie.                          rule: the submission
+-- The KSB format, version 1: its fields, and where its parts lie.                  rule: SUBMISSION
 --     mark, version, moduleCount, imageLength, lineLength      the header
 --     dataLength, stringLength, reserved                       the entry of a module
 --     imageStart, lineStart, dataStart, stringStart            the parts, one behind the other, by exact whole numbers

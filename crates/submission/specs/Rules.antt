@@ -1,4 +1,4 @@
--- Which submissions are refused.                                rule: the submission, the table of numbered answers
+-- Which submissions are refused.                               rules: SUBMISSION, ANSWERS (1 and 2)
 --     isSubmission, rulesHold     the rules behind 1, and those behind 2
 --     submissionChecks            1 and 2
 --     parsed                      the answer for a submission, and its layout where no check applies
