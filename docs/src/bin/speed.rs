@@ -1,0 +1,123 @@
+//! Times the loaders beside a plain copy of the same bytes: a 4 MiB image with its header at
+//! 8,160, 16 modules and a map of 32 pairs, into a window of 8 MiB.
+//!
+//! `cargo run --release --bin speed`, with `--features proved` for the proved loader too.
+
+use std::hint::black_box;
+use std::time::{Duration, Instant};
+use viertompu_host::case::Case;
+use viertompu_host::compare::others;
+use viertompu_host::generate::draft::{pattern, Draft, Header, Module};
+use viertompu_host::limits::{FLOOR, MAX_MODULES, MAX_PAIRS};
+use viertompu_host::pair::Pair;
+use viertompu_host::plan::{Loader, Plan, Words};
+use viertompu_host::second::{self, submission::Submission};
+
+const MIB: usize = 1 << 20;
+const HEADER: usize = 8160;
+const MODULE: usize = 64 * 1024;
+const BSS: u32 = 64 * 1024;
+const ROUNDS: usize = 51;
+
+fn main() {
+    let case = case();
+    let mut window = case.window.clone();
+    let words = load(second::load, &case, &mut window);
+    let plan = Plan::of_words(&words).expect("the case is a load");
+    let parts = parts(&case, &plan, &window);
+    let written: usize = parts.iter().map(|(_, bytes)| bytes.len()).sum();
+    println!("{written} bytes written, median and least of {ROUNDS} rounds");
+    report("plain copy", written, || copy(&parts, &mut window));
+    report("second", written, || {
+        black_box(load(second::load, &case, &mut window));
+    });
+    for (name, loader) in others() {
+        assert!(load(loader, &case, &mut window) == words, "{name} differs");
+        report(name, written, || {
+            black_box(load(loader, &case, &mut window));
+        });
+    }
+}
+
+fn case() -> Case {
+    let load_addr = FLOOR as u32;
+    let load_end = load_addr + 4 * MIB as u32;
+    let module = |index: usize| Module {
+        data: pattern(index, MODULE),
+        string: format!("module {index}").into_bytes(),
+    };
+    let draft = Draft {
+        filler: pattern(0, 4 * MIB),
+        header: Header {
+            offset: HEADER,
+            flags: 0x1_0003,
+            header_addr: load_addr + HEADER as u32,
+            load_addr,
+            bss_end_addr: load_end + BSS,
+            entry_addr: load_addr,
+            ..Header::default()
+        },
+        modules: (0..MAX_MODULES).map(module).collect(),
+        line: b"speed".to_vec(),
+        pairs: map(),
+        first: load_addr,
+        window: 8 * MIB,
+        ..Draft::default()
+    };
+    draft.case("speed".to_string())
+}
+
+/// Low memory, then the window's memory in regions that abut.
+fn map() -> Vec<Pair> {
+    let count = MAX_PAIRS as u64 - 1;
+    let length = 8 * MIB as u64 / count + 1;
+    let part = |index: u64| Pair::new(FLOOR + index * length, length, 1);
+    let mut pairs = vec![Pair::new(0, 0x9_FC00, 1)];
+    pairs.extend((0..count).map(part));
+    pairs
+}
+
+fn load(loader: Loader, case: &Case, window: &mut [u8]) -> Words {
+    let (submission, operator) = (&case.submission, &case.operator);
+    loader(submission, operator, &case.map, window, case.first)
+}
+
+/// What a load writes: where in the window, and the bytes.
+fn parts(case: &Case, plan: &Plan, loaded: &[u8]) -> Vec<(usize, Vec<u8>)> {
+    let submission = Submission::read(&case.submission).expect("the case is a load");
+    let at = |address: u32| (address - case.first) as usize;
+    let segment = plan.segments[0];
+    let (load_end, extent_end) = (at(segment.load_end), at(segment.extent_end));
+    let mut parts = vec![
+        (at(segment.start), submission.image.to_vec()),
+        (load_end, vec![0; extent_end - load_end]),
+    ];
+    for (module, place) in submission.modules.iter().zip(&plan.modules) {
+        parts.push((at(place.start), module.data.to_vec()));
+    }
+    let (start, end) = (at(plan.block.start), at(plan.block.end));
+    parts.push((start, loaded[start..end].to_vec()));
+    parts
+}
+
+fn copy(parts: &[(usize, Vec<u8>)], window: &mut [u8]) {
+    for (at, bytes) in parts {
+        window[*at..at + bytes.len()].copy_from_slice(black_box(bytes));
+    }
+    black_box(window);
+}
+
+fn report(name: &str, written: usize, mut work: impl FnMut()) {
+    let mut times: Vec<Duration> = (0..ROUNDS)
+        .map(|_| {
+            let began = Instant::now();
+            work();
+            began.elapsed()
+        })
+        .collect();
+    times.sort();
+    let micros = |time: Duration| time.as_secs_f64() * 1e6;
+    let (median, least) = (micros(times[ROUNDS / 2]), micros(times[0]));
+    let rate = written as f64 / median / 1000.0;
+    println!("{name:12} {median:10.1} us {least:10.1} us {rate:8.2} GB/s");
+}

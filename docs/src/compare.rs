@@ -1,0 +1,118 @@
+//! Runs loaders on a case and tells where they differ.
+
+use crate::bytes::u32_at;
+use crate::case::Case;
+use crate::handover;
+use crate::naive::{self, Board};
+use crate::pair::pairs;
+use crate::plan::{Loader, Plan, Words};
+use crate::second;
+use std::ops::Range;
+
+/// What a loader left behind.
+#[derive(Clone, Debug, PartialEq, Eq)]
+pub struct Outcome {
+    pub words: Words,
+    pub window: Vec<u8>,
+}
+
+/// Runs a loader on a copy of the case's window.
+pub fn run(loader: Loader, case: &Case) -> Outcome {
+    let mut window = case.window.clone();
+    let words = loader(&case.submission, &case.operator, &case.map, &mut window, case.first);
+    Outcome { words, window }
+}
+
+/// Says where two outcomes of a case first differ.
+pub fn same(case: &Case, one: &Outcome, other: &Outcome) -> Result<(), String> {
+    if one.words != other.words {
+        let pairs = one.words.iter().zip(&other.words);
+        let at = pairs.take_while(|(a, b)| a == b).count();
+        let (a, b) = (one.words[at], other.words[at]);
+        return Err(format!("word {at} is {a:08X} and {b:08X}"));
+    }
+    if one.window != other.window {
+        let pairs = one.window.iter().zip(&other.window);
+        let at = pairs.take_while(|(a, b)| a == b).count();
+        let address = u64::from(case.first) + at as u64;
+        return Err(format!("the windows differ at address {address:08X}"));
+    }
+    Ok(())
+}
+
+/// Is the outcome right by itself? A refusal leaves an all-zero plan and the window as it was;
+/// a load hands over what the submission holds.
+pub fn sound(case: &Case, outcome: &Outcome) -> Result<(), String> {
+    match Plan::of_words(&outcome.words) {
+        Some(plan) => handover::check(case, &plan, outcome),
+        None if outcome.window != case.window => Err("a refusal wrote the window".into()),
+        None if outcome.words[2..].iter().any(|&w| w != 0) => Err("a refusal has a plan".into()),
+        None if outcome.words[0] != 16 && outcome.words[1] != 0 => Err("a stray item".into()),
+        None => Ok(()),
+    }
+}
+
+/// A case as the address-by-address model sees it, once checks 1 to 14 have passed.
+pub struct NaiveView {
+    board: Board,
+    kernel: Range<u64>,
+    modules: Vec<naive::Item>,
+    block: naive::Item,
+}
+
+impl NaiveView {
+    /// Nothing where one of the checks 1 to 14 refuses.
+    pub fn of(case: &Case) -> Option<Self> {
+        let window = second::window_span(case.first, case.window.len());
+        let request = second::examine(&case.submission, &case.operator, &case.map, window).ok()?;
+        let extent = request.kernel.extent();
+        let item = |item: second::Item| (item.length, item.boundary);
+        Some(NaiveView {
+            board: Board { pairs: pairs(&case.map), window: window.start..window.end },
+            kernel: extent.start..extent.end,
+            modules: request.module_items().into_iter().map(item).collect(),
+            block: item(request.block_item()),
+        })
+    }
+
+    /// The same where the board costs the model no more than this.
+    pub fn up_to(case: &Case, cost: u128) -> Option<Self> {
+        Self::of(case).filter(|view| view.board.cost() <= cost)
+    }
+
+    /// Says where an outcome differs from the model.
+    pub fn agrees(&self, outcome: &Outcome) -> Result<(), String> {
+        let kernel = self.kernel.clone();
+        match self.board.place(kernel, &self.modules, self.block) {
+            Err(refusal) if refusal.words() == outcome.words => Ok(()),
+            Err(refusal) => Err(format!("address by address it is {refusal:?}")),
+            Ok(starts) => self.agrees_with_load(&starts, outcome),
+        }
+    }
+
+    /// A load stands where the model puts it and tells the model's memory sizes.
+    fn agrees_with_load(&self, starts: &[u64], outcome: &Outcome) -> Result<(), String> {
+        let plan = Plan::of_words(&outcome.words).ok_or("address by address it is a load")?;
+        let modules = &plan.modules[..self.modules.len()];
+        let mut told: Vec<u64> = modules.iter().map(|m| u64::from(m.start)).collect();
+        told.push(u64::from(plan.block.start));
+        if told != starts {
+            return Err(format!("address by address the starts are {starts:X?}"));
+        }
+        let block = (plan.block.start - self.board.window.start as u32) as usize;
+        let size = |offset: usize| u64::from(u32_at(&outcome.window, block + offset));
+        let (lower, upper) = self.board.memory_sizes();
+        if (size(4), size(8)) != (lower, upper) {
+            return Err(format!("address by address the sizes are {lower} and {upper}"));
+        }
+        Ok(())
+    }
+}
+
+/// The loaders held against the second one.
+pub fn others() -> Vec<(&'static str, Loader)> {
+    vec![
+        #[cfg(feature = "proved")]
+        ("proved", crate::proved::load),
+    ]
+}

@@ -1,0 +1,52 @@
+//! The numbers of the rules, each in one place.
+
+/// The page size: the boundary of modules where the header asks for it.
+pub const PAGE: u64 = 4096;
+/// The boundary of modules otherwise, and of the information block.
+pub const WORD: u64 = 4;
+/// The lowest address at which a module or the information block may stand.
+pub const FLOOR: u64 = 0x10_0000;
+/// The highest address at which a window may end.
+pub const TOP: u64 = 0xFFFF_F000;
+/// One past the last physical address.
+pub const ADDRESS_SPACE: u64 = 1 << 32;
+
+/// Modules of a submission.
+pub const MAX_MODULES: usize = 16;
+/// Segments of a plan.
+pub const MAX_SEGMENTS: usize = 16;
+/// Bytes of a command line.
+pub const MAX_LINE: usize = 255;
+/// Bytes of a module's string.
+pub const MAX_STRING: usize = 127;
+/// Bytes of a memory map.
+pub const MAX_MAP: usize = 4096;
+/// Pairs of a memory map.
+pub const MAX_PAIRS: usize = 32;
+/// The least value of a pair's size field: base, length and type.
+pub const MIN_PAIR_SIZE: usize = 20;
+
+/// The bytes before a submission's module table.
+pub const PREFIX: usize = 12;
+/// The bytes of one entry of a submission's module table.
+pub const TABLE_ENTRY: usize = 8;
+
+/// The header lies in this many first bytes of the image.
+pub const SEARCH_LIMIT: usize = 8192;
+/// The bytes of a header without address fields.
+pub const SHORT_HEADER: usize = 12;
+/// The bytes of a header with address fields.
+pub const FULL_HEADER: usize = 32;
+/// The header's first word.
+pub const HEADER_MAGIC: u32 = 0x1BAD_B002;
+
+/// EAX at the hand-over.
+pub const BOOT_MAGIC: u32 = 0x2BAD_B002;
+/// The bytes of the information structure.
+pub const STRUCTURE: u64 = 88;
+/// The bytes of one module entry of the information block.
+pub const MODULE_ENTRY: u64 = 16;
+/// The loader's name, without its final zero.
+pub const LOADER_NAME: &[u8] = b"shelf 1";
+/// The greatest value of mem_lower.
+pub const MAX_MEM_LOWER: u64 = 640;

@@ -1,0 +1,172 @@
+//! What a loader answers: a plan or a refusal, as types and as 96 words.
+
+use crate::limits::{MAX_MODULES, MAX_SEGMENTS};
+
+/// The words of an answer.
+///
+/// 0 number, 1 item, 2 header offset, 3 entry, 4 EAX, 5 EBX, 6 and 7 the information block's
+/// start and end, 8 to 55 sixteen segments (start, load end, extent end), 56 to 87 sixteen modules
+/// (start, end), 88 to 95 zero.
+pub const WORDS: usize = 96;
+const SEGMENTS_AT: usize = 8;
+const MODULES_AT: usize = 56;
+
+pub type Words = [u32; WORDS];
+
+/// A loader: submission, operator's line, map, window and the window's first address.
+pub type Loader = fn(&[u8], &[u8], &[u8], &mut [u8], u32) -> Words;
+
+/// The addresses from `start` up to but not including `end`.
+#[derive(Clone, Copy, Debug, Default, PartialEq, Eq)]
+pub struct Extent {
+    pub start: u32,
+    pub end: u32,
+}
+
+/// A part of the kernel: loaded up to `load_end`, cleared from there to `extent_end`.
+#[derive(Clone, Copy, Debug, Default, PartialEq, Eq)]
+pub struct Segment {
+    pub start: u32,
+    pub load_end: u32,
+    pub extent_end: u32,
+}
+
+/// A load. Segments and modules past the last are zero.
+#[derive(Clone, Debug, PartialEq, Eq)]
+pub struct Plan {
+    pub header_offset: u32,
+    pub entry: u32,
+    pub eax: u32,
+    pub ebx: u32,
+    pub block: Extent,
+    pub segments: [Segment; MAX_SEGMENTS],
+    pub modules: [Extent; MAX_MODULES],
+}
+
+/// Why a submission is not loaded, in the order of the checks.
+#[derive(Clone, Copy, Debug, PartialEq, Eq)]
+pub enum Refusal {
+    /// 1: the submission is under 12 bytes, does not begin with its mark or is not of version 1
+    NotASubmission,
+    /// 2: another rule of the submission's format is broken
+    BadSubmission,
+    /// 3: the operator's command line is over 255 bytes or holds a zero byte
+    BadOperatorLine,
+    /// 4: the window would end above 0xFFFFF000
+    WindowTooHigh,
+    /// 5: the memory map is empty, too long, or has a pair too many, too small or cut off
+    BadMap,
+    /// 6: the image holds no header
+    NoHeader,
+    /// 7: the header demands something by its flag bits 2 to 15
+    UnknownDemand,
+    /// 8: the header announces no address fields
+    NoAddressFields,
+    /// 9: the header's address fields run past the search limit or the image
+    HeaderCutOff,
+    /// 10: the load would begin behind the header or before the image
+    LoadOutsideImage,
+    /// 11: the load has no given end and no image byte is left for it
+    NothingToLoad,
+    /// 12: the load would end before its start or past the image
+    LoadPastImage,
+    /// 13: the bss would end below the load end
+    BssBelowLoadEnd,
+    /// 14: the entry lies outside the loaded bytes
+    EntryOutsideLoad,
+    /// 15: an address of the kernel's extent is not open
+    KernelNotOpen,
+    /// 16: no room for the module of this index
+    NoRoomForModule(u32),
+    /// 17: no room for the information block
+    NoRoomForBlock,
+}
+
+pub type Answer = Result<Plan, Refusal>;
+
+impl Refusal {
+    pub fn number(self) -> u32 {
+        match self {
+            Refusal::NotASubmission => 1,
+            Refusal::BadSubmission => 2,
+            Refusal::BadOperatorLine => 3,
+            Refusal::WindowTooHigh => 4,
+            Refusal::BadMap => 5,
+            Refusal::NoHeader => 6,
+            Refusal::UnknownDemand => 7,
+            Refusal::NoAddressFields => 8,
+            Refusal::HeaderCutOff => 9,
+            Refusal::LoadOutsideImage => 10,
+            Refusal::NothingToLoad => 11,
+            Refusal::LoadPastImage => 12,
+            Refusal::BssBelowLoadEnd => 13,
+            Refusal::EntryOutsideLoad => 14,
+            Refusal::KernelNotOpen => 15,
+            Refusal::NoRoomForModule(_) => 16,
+            Refusal::NoRoomForBlock => 17,
+        }
+    }
+
+    pub fn item(self) -> u32 {
+        match self {
+            Refusal::NoRoomForModule(index) => index,
+            _ => 0,
+        }
+    }
+
+    /// Number and item; every other word is zero.
+    pub fn words(self) -> Words {
+        let mut words = [0; WORDS];
+        words[0] = self.number();
+        words[1] = self.item();
+        words
+    }
+}
+
+impl Plan {
+    pub fn words(&self) -> Words {
+        let mut words = [0; WORDS];
+        let head = [self.header_offset, self.entry, self.eax, self.ebx];
+        words[2..6].copy_from_slice(&head);
+        words[6..8].copy_from_slice(&[self.block.start, self.block.end]);
+        for (i, s) in self.segments.iter().enumerate() {
+            let at = SEGMENTS_AT + 3 * i;
+            words[at..at + 3].copy_from_slice(&[s.start, s.load_end, s.extent_end]);
+        }
+        for (i, m) in self.modules.iter().enumerate() {
+            let at = MODULES_AT + 2 * i;
+            words[at..at + 2].copy_from_slice(&[m.start, m.end]);
+        }
+        words
+    }
+
+    /// The plan in a load's words; nothing where the words are a refusal's.
+    pub fn of_words(words: &Words) -> Option<Plan> {
+        let segment = |i: usize| Segment {
+            start: words[SEGMENTS_AT + 3 * i],
+            load_end: words[SEGMENTS_AT + 3 * i + 1],
+            extent_end: words[SEGMENTS_AT + 3 * i + 2],
+        };
+        let module = |i: usize| Extent {
+            start: words[MODULES_AT + 2 * i],
+            end: words[MODULES_AT + 2 * i + 1],
+        };
+        (words[0] == 0).then(|| Plan {
+            header_offset: words[2],
+            entry: words[3],
+            eax: words[4],
+            ebx: words[5],
+            block: Extent { start: words[6], end: words[7] },
+            segments: std::array::from_fn(segment),
+            modules: std::array::from_fn(module),
+        })
+    }
+}
+
+/// The words of an answer.
+pub fn words(answer: &Answer) -> Words {
+    match answer {
+        Ok(plan) => plan.words(),
+        Err(refusal) => refusal.words(),
+    }
+}

@@ -1,0 +1,122 @@
+//! The header and the load calculation (checks 6 to 14).
+
+use super::spans::Span;
+use crate::bytes::u32_at;
+use crate::limits::{FULL_HEADER, HEADER_MAGIC, SEARCH_LIMIT, SHORT_HEADER};
+use crate::plan::Refusal;
+
+const PAGE_ALIGNED: u32 = 1;
+const DEMANDS_UNKNOWN: u32 = 0xFFFC;
+const ADDRESS_FIELDS: u32 = 1 << 16;
+
+/// A place in the image file, never an address.
+#[derive(Clone, Copy, Debug, PartialEq, Eq)]
+pub struct ImageOffset(pub u64);
+
+/// What the header asks for.
+pub struct Kernel<'a> {
+    pub header_offset: ImageOffset,
+    pub page_aligned: bool,
+    pub load: Span,
+    pub load_bytes: &'a [u8],
+    pub bss_end: u64,
+    pub entry: u32,
+}
+
+/// The address fields, as exact numbers.
+struct AddressFields {
+    header: u64,
+    load: u64,
+    load_end: u64,
+    bss_end: u64,
+    entry: u32,
+}
+
+impl<'a> Kernel<'a> {
+    pub fn read(image: &'a [u8]) -> Result<Self, Refusal> {
+        let header_offset = find_header(image).ok_or(Refusal::NoHeader)?;
+        let flags = u32_at(image, header_offset.0 as usize + 4);
+        let fields = AddressFields::read(image, header_offset, flags)?;
+        let load_offset = load_offset(&fields, header_offset).ok_or(Refusal::LoadOutsideImage)?;
+        let length = load_length(&fields, load_offset, image.len() as u64)?;
+        let load = Span { start: fields.load, end: fields.load + length };
+        if fields.bss_end != 0 && fields.bss_end < load.end {
+            return Err(Refusal::BssBelowLoadEnd);
+        }
+        if !load.contains(u64::from(fields.entry)) {
+            return Err(Refusal::EntryOutsideLoad);
+        }
+        Ok(Kernel {
+            header_offset,
+            page_aligned: flags & PAGE_ALIGNED != 0,
+            load,
+            load_bytes: &image[load_offset.0 as usize..(load_offset.0 + length) as usize],
+            bss_end: fields.bss_end,
+            entry: fields.entry,
+        })
+    }
+
+    /// Load bytes and bss.
+    pub fn extent(&self) -> Span {
+        Span { start: self.load.start, end: self.load.end.max(self.bss_end) }
+    }
+
+    /// From the load end to the extent's end.
+    pub fn bss(&self) -> Span {
+        Span { start: self.load.end, end: self.extent().end }
+    }
+}
+
+/// The lowest offset of a header: magic, flags and checksum give 0 modulo 2^32.
+fn find_header(image: &[u8]) -> Option<ImageOffset> {
+    let searched = &image[..image.len().min(SEARCH_LIMIT)];
+    let is_header = |at: &usize| {
+        let magic = u32_at(searched, *at);
+        let flags = u32_at(searched, *at + 4);
+        let checksum = u32_at(searched, *at + 8);
+        magic == HEADER_MAGIC && magic.wrapping_add(flags).wrapping_add(checksum) == 0
+    };
+    let last = searched.len().checked_sub(SHORT_HEADER)?;
+    let found = (0..=last).step_by(4).find(is_header)?;
+    Some(ImageOffset(found as u64))
+}
+
+impl AddressFields {
+    /// The fields behind the flags and the checksum (checks 7 to 9).
+    fn read(image: &[u8], header: ImageOffset, flags: u32) -> Result<Self, Refusal> {
+        if flags & DEMANDS_UNKNOWN != 0 {
+            return Err(Refusal::UnknownDemand);
+        }
+        if flags & ADDRESS_FIELDS == 0 {
+            return Err(Refusal::NoAddressFields);
+        }
+        let at = header.0 as usize;
+        if at + FULL_HEADER > SEARCH_LIMIT || at + FULL_HEADER > image.len() {
+            return Err(Refusal::HeaderCutOff);
+        }
+        let field = |index: usize| u64::from(u32_at(image, at + SHORT_HEADER + 4 * index));
+        Ok(AddressFields {
+            header: field(0),
+            load: field(1),
+            load_end: field(2),
+            bss_end: field(3),
+            entry: u32_at(image, at + SHORT_HEADER + 16),
+        })
+    }
+}
+
+/// Where the load begins: as far before the header as load_addr lies below header_addr.
+fn load_offset(fields: &AddressFields, header: ImageOffset) -> Option<ImageOffset> {
+    let distance = fields.header.checked_sub(fields.load)?;
+    header.0.checked_sub(distance).map(ImageOffset)
+}
+
+/// The count of load bytes (checks 11 and 12).
+fn load_length(fields: &AddressFields, from: ImageOffset, image: u64) -> Result<u64, Refusal> {
+    if fields.load_end == 0 {
+        let left = image.saturating_sub(from.0);
+        return if left == 0 { Err(Refusal::NothingToLoad) } else { Ok(left) };
+    }
+    let length = fields.load_end.checked_sub(fields.load);
+    length.filter(|length| from.0 + length <= image).ok_or(Refusal::LoadPastImage)
+}

@@ -1,0 +1,174 @@
+//! The second loader: checks in the order of their numbers, placing by sets of spans, and the
+//! window written only after every check has passed.
+//!
+//! Physical addresses are plain `u64`; offsets in the image are [`kernel::ImageOffset`].
+
+pub mod boot_info;
+pub mod kernel;
+pub mod memory;
+pub mod spans;
+pub mod submission;
+
+use crate::limits::{BOOT_MAGIC, MAX_LINE, MAX_MODULES, MAX_SEGMENTS, PAGE, TOP, WORD};
+use crate::plan::{self, Answer, Extent, Plan, Refusal, Segment, Words};
+use boot_info::BootInfo;
+use kernel::Kernel;
+use memory::MemoryMap;
+use spans::{Span, SpanSet};
+use submission::Submission;
+
+/// Loads a submission into the window, or refuses and leaves the window as it was.
+pub fn load(
+    submission: &[u8],
+    operator: &[u8],
+    map: &[u8],
+    window: &mut [u8],
+    first: u32,
+) -> Words {
+    let lent = window_span(first, window.len());
+    let answer: Answer = examine(submission, operator, map, lent).and_then(|request| {
+        let layout = place(&request, lent)?;
+        write(&request, &layout, window, lent);
+        Ok(plan_of(&request, &layout))
+    });
+    plan::words(&answer)
+}
+
+/// The addresses for which the window stands.
+pub fn window_span(first: u32, length: usize) -> Span {
+    let start = u64::from(first);
+    Span { start, end: start + length as u64 }
+}
+
+/// What is to be loaded: everything known before the kernel meets the board.
+pub struct Request<'a> {
+    pub kernel: Kernel<'a>,
+    pub submission: Submission<'a>,
+    pub command_line: &'a [u8],
+    pub map: MemoryMap<'a>,
+}
+
+/// Something to be placed.
+#[derive(Clone, Copy, Debug, PartialEq, Eq)]
+pub struct Item {
+    pub length: u64,
+    pub boundary: u64,
+}
+
+/// Checks 1 to 14.
+pub fn examine<'a>(
+    submission: &'a [u8],
+    operator: &'a [u8],
+    map: &'a [u8],
+    window: Span,
+) -> Result<Request<'a>, Refusal> {
+    let submission = Submission::read(submission)?;
+    if operator.len() > MAX_LINE || operator.contains(&0) {
+        return Err(Refusal::BadOperatorLine);
+    }
+    if window.end > TOP {
+        return Err(Refusal::WindowTooHigh);
+    }
+    let map = MemoryMap::read(map)?;
+    let kernel = Kernel::read(submission.image)?;
+    let command_line = match operator {
+        [] => submission.command_line,
+        _ => operator,
+    };
+    Ok(Request { kernel, submission, command_line, map })
+}
+
+impl Request<'_> {
+    /// The modules in list order.
+    pub fn module_items(&self) -> Vec<Item> {
+        let boundary = if self.kernel.page_aligned { PAGE } else { WORD };
+        let item = |length: usize| Item { length: length as u64, boundary };
+        let modules = self.submission.modules.iter();
+        modules.map(|module| item(module.data.len())).collect()
+    }
+
+    /// The information block.
+    pub fn block_item(&self) -> Item {
+        Item { length: boot_info::length(self), boundary: WORD }
+    }
+}
+
+/// Where the items stand.
+pub struct Layout {
+    pub modules: Vec<Span>,
+    pub block: Span,
+}
+
+/// Checks 15 to 17.
+fn place(request: &Request, window: Span) -> Result<Layout, Refusal> {
+    let mut free = request.map.usable().within(window);
+    if !free.covers(request.kernel.extent()) {
+        return Err(Refusal::KernelNotOpen);
+    }
+    free.remove(request.kernel.extent());
+    let mut modules = Vec::new();
+    for (index, item) in request.module_items().into_iter().enumerate() {
+        let span = take(&mut free, item).ok_or(Refusal::NoRoomForModule(index as u32))?;
+        modules.push(span);
+    }
+    let block = take(&mut free, request.block_item()).ok_or(Refusal::NoRoomForBlock)?;
+    Ok(Layout { modules, block })
+}
+
+/// Takes the lowest place of an item out of the free memory, or nothing where it has none.
+fn take(free: &mut SpanSet, item: Item) -> Option<Span> {
+    let start = free.lowest_place(item.length, item.boundary)?;
+    let span = Span { start, end: start + item.length };
+    free.remove(span);
+    Some(span)
+}
+
+/// Writes the load bytes, zeros over the bss, the modules and the information block.
+fn write(request: &Request, layout: &Layout, window: &mut [u8], lent: Span) {
+    let kernel = &request.kernel;
+    part(window, lent, kernel.load).copy_from_slice(kernel.load_bytes);
+    part(window, lent, kernel.bss()).fill(0);
+    for (module, &span) in request.submission.modules.iter().zip(&layout.modules) {
+        part(window, lent, span).copy_from_slice(module.data);
+    }
+    let info = BootInfo::new(request, layout);
+    part(window, lent, layout.block).copy_from_slice(&info.bytes());
+}
+
+/// The window's bytes that stand for a span.
+fn part(window: &mut [u8], lent: Span, span: Span) -> &mut [u8] {
+    let offset = |address: u64| (address - lent.start) as usize;
+    &mut window[offset(span.start)..offset(span.end)]
+}
+
+fn plan_of(request: &Request, layout: &Layout) -> Plan {
+    let kernel = &request.kernel;
+    let mut segments = [Segment::default(); MAX_SEGMENTS];
+    segments[0] = Segment {
+        start: word(kernel.load.start),
+        load_end: word(kernel.load.end),
+        extent_end: word(kernel.extent().end),
+    };
+    let mut modules = [Extent::default(); MAX_MODULES];
+    for (slot, &span) in modules.iter_mut().zip(&layout.modules) {
+        *slot = extent(span);
+    }
+    Plan {
+        header_offset: word(kernel.header_offset.0),
+        entry: kernel.entry,
+        eax: BOOT_MAGIC,
+        ebx: word(layout.block.start),
+        block: extent(layout.block),
+        segments,
+        modules,
+    }
+}
+
+fn extent(span: Span) -> Extent {
+    Extent { start: word(span.start), end: word(span.end) }
+}
+
+/// A number of a load as a word: all of them lie within the window, so below 2^32.
+pub(crate) fn word(number: u64) -> u32 {
+    u32::try_from(number).expect("a load's numbers lie below 2^32")
+}

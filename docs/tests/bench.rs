@@ -1,0 +1,67 @@
+//! The rules' bench cases and edges through every loader.
+
+use viertompu_host::bench_cases::{bench, edges, BenchCase};
+use viertompu_host::case::Case;
+use viertompu_host::compare::{others, run, same, sound, NaiveView, Outcome};
+use viertompu_host::generate::draft::Header;
+use viertompu_host::second;
+
+/// The outcome is what the rules names, and right by itself.
+fn meets(bench: &BenchCase, outcome: &Outcome) -> Result<(), String> {
+    let expected = Outcome { words: bench.words, window: outcome.window.clone() };
+    same(&bench.case, outcome, &expected)?;
+    for (address, bytes) in &bench.memory {
+        let at = (address - bench.case.first) as usize;
+        if outcome.window[at..at + bytes.len()] != bytes[..] {
+            return Err(format!("other bytes at {address:08X}"));
+        }
+    }
+    sound(&bench.case, outcome)?;
+    NaiveView::up_to(&bench.case, 1 << 25).map_or(Ok(()), |view| view.agrees(outcome))
+}
+
+fn check_all(cases: &[BenchCase]) {
+    for bench in cases {
+        let outcome = run(second::load, &bench.case);
+        meets(bench, &outcome).unwrap_or_else(|e| panic!("{}: second: {e}", bench.name));
+        for (name, loader) in others() {
+            let other = run(loader, &bench.case);
+            meets(bench, &other)
+                .and_then(|()| same(&bench.case, &other, &outcome))
+                .unwrap_or_else(|e| panic!("{}: {name}: {e}", bench.name));
+        }
+    }
+}
+
+#[test]
+fn bench_cases_give_what_the_rules_name() {
+    check_all(&bench());
+}
+
+#[test]
+fn edges_give_what_the_rules_name() {
+    check_all(&edges());
+}
+
+#[test]
+fn every_number_but_11_has_a_case() {
+    let cases: Vec<BenchCase> = bench().into_iter().chain(edges()).collect();
+    for number in (0..=17).filter(|&n| n != 11) {
+        let has = cases.iter().any(|case| case.words[0] == number);
+        assert!(has, "no case for {number}");
+    }
+}
+
+#[test]
+fn checksums_are_those_of_the_rules() {
+    assert_eq!(Header::checksum(0), 0xE452_4FFE);
+    assert_eq!(Header::checksum(0x1_0001), 0xE451_4FFD);
+}
+
+#[test]
+fn a_case_reads_back_as_printed() {
+    for bench in bench() {
+        let read: Case = bench.case.to_string().parse().expect("a printed case");
+        assert_eq!(read, bench.case);
+    }
+}

@@ -1,0 +1,97 @@
+//! Generated inputs through the second loader, held against the address-by-address model on small
+//! boards, against a reading of the finished load, and against every other loader there is.
+//!
+//! Prints how often each number came and fails where one came too rarely or two answers differ.
+//! `VIERTOMPU_SEED` and `VIERTOMPU_CASES` choose another run.
+
+use std::collections::BTreeMap;
+use std::env;
+use std::fs;
+use std::panic::{catch_unwind, AssertUnwindSafe};
+use std::path::Path;
+use std::process::ExitCode;
+use std::time::Instant;
+use viertompu_host::case::Case;
+use viertompu_host::compare::{others, run, same, sound, NaiveView, Outcome};
+use viertompu_host::coverage::Coverage;
+use viertompu_host::{generate, second};
+
+const SEED: u64 = 1;
+const CASES: u64 = 200_000;
+/// Boards up to this cost are held against the address-by-address model.
+const SMALL_BOARD: u128 = 1 << 18;
+/// Agreements with the address-by-address model demanded for each of the numbers it decides.
+const LEAST_AGREEMENTS: u64 = 100;
+
+fn main() -> ExitCode {
+    let seed = setting("VIERTOMPU_SEED", SEED);
+    let cases = setting("VIERTOMPU_CASES", CASES);
+    let began = Instant::now();
+    let mut coverage = Coverage::default();
+    let mut agreed: BTreeMap<u32, u64> = BTreeMap::new();
+    for index in 0..cases {
+        let case = generate::case(seed, index);
+        let outcome = run(second::load, &case);
+        coverage.record(&case, &outcome);
+        let checked = catch_unwind(AssertUnwindSafe(|| check(&case, &outcome, &mut agreed)));
+        if let Err(what) = checked.unwrap_or(Err("a panic".to_string())) {
+            return differs(&case, &what);
+        }
+    }
+    print!("{coverage}");
+    println!("  agreed with the address-by-address model: {agreed:?}");
+    let names: Vec<_> = others().iter().map(|(name, _)| *name).collect();
+    println!("  loaders held against the second: {names:?}");
+    println!("  {:.1} s", began.elapsed().as_secs_f64());
+    verdict(coverage.gaps(), &agreed, cases)
+}
+
+fn setting(name: &str, default: u64) -> u64 {
+    match env::var(name) {
+        Ok(text) => text.parse().unwrap_or_else(|_| panic!("{name} is no number")),
+        Err(_) => default,
+    }
+}
+
+/// Everything that must hold of one case.
+fn check(case: &Case, outcome: &Outcome, agreed: &mut BTreeMap<u32, u64>) -> Result<(), String> {
+    sound(case, outcome)?;
+    if let Some(view) = NaiveView::up_to(case, SMALL_BOARD) {
+        view.agrees(outcome)?;
+        *agreed.entry(outcome.words[0]).or_default() += 1;
+    }
+    for (name, loader) in others() {
+        let other = run(loader, case);
+        same(case, &other, outcome).map_err(|what| format!("{name} and second: {what}"))?;
+    }
+    Ok(())
+}
+
+/// Keeps the case and says how to run it again.
+fn differs(case: &Case, what: &str) -> ExitCode {
+    let name = format!("{}.case", case.name.replace(' ', "-"));
+    let path = Path::new(env!("CARGO_TARGET_TMPDIR")).join(name);
+    fs::write(&path, case.to_string()).expect("the case can be kept");
+    println!("{}: {what}", case.name);
+    let features = if cfg!(feature = "proved") { "--features proved " } else { "" };
+    println!("run it again: cargo run {features}--bin case -- {}", path.display());
+    ExitCode::FAILURE
+}
+
+fn verdict(mut gaps: Vec<String>, agreed: &BTreeMap<u32, u64>, cases: u64) -> ExitCode {
+    let least = LEAST_AGREEMENTS * cases / CASES;
+    for number in [0, 15, 16, 17] {
+        if agreed.get(&number).copied().unwrap_or(0) < least {
+            gaps.push(format!("number {number} address by address"));
+        }
+    }
+    for gap in &gaps {
+        println!("too rare: {gap}");
+    }
+    if gaps.is_empty() {
+        println!("all agree");
+        ExitCode::SUCCESS
+    } else {
+        ExitCode::FAILURE
+    }
+}

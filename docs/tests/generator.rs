@@ -1,0 +1,36 @@
+//! The generator itself: a case depends on its seed and index alone, and its window holds no zero.
+
+use viertompu_host::generate;
+use viertompu_host::review::{output, MAX_INPUT};
+use viertompu_host::second;
+
+#[test]
+fn a_case_depends_on_seed_and_index_alone() {
+    let submissions = |seed: u64| -> Vec<_> {
+        let cases = (0..500).map(|index| generate::case(seed, index));
+        cases.map(|case| case.submission).collect()
+    };
+    assert_eq!(generate::case(7, 123), generate::case(7, 123));
+    assert_eq!(submissions(7), submissions(7));
+    assert_ne!(submissions(7), submissions(8));
+}
+
+#[test]
+fn windows_hold_no_zero() {
+    for index in 0..2000 {
+        assert!(!generate::case(3, index).window.contains(&0));
+    }
+}
+
+#[test]
+fn submissions_for_the_review_program_give_most_numbers() {
+    let submissions: Vec<_> = (0..300).map(|i| generate::review_submission(1, i)).collect();
+    let printed: Vec<_> = submissions.iter().map(|s| output(second::load, s)).collect();
+    assert!(submissions.iter().any(|s| s.len() > MAX_INPUT));
+    let begin = |with: &str| printed.iter().any(|text| text.starts_with(with));
+    assert!(begin("kernel "));
+    // The board and the operator's line are fixed, and 11 cannot be reached.
+    for number in (1..=17).filter(|n| ![3, 4, 5, 11].contains(n)) {
+        assert!(begin(&format!("refused {number} ")), "no {number}");
+    }
+}

@@ -1,0 +1,60 @@
+//! What the review program prints, by the second loader and by the compiled program.
+
+use viertompu_host::bench_cases::{b1, B1_OUTPUT};
+use viertompu_host::review::output;
+use viertompu_host::second;
+
+#[test]
+fn b1_prints_its_three_lines() {
+    assert_eq!(b1().len(), 66);
+    assert_eq!(output(second::load, &b1()), B1_OUTPUT);
+}
+
+#[test]
+fn a_refusal_prints_one_line() {
+    assert_eq!(output(second::load, b""), "refused 1 0\n");
+}
+
+#[test]
+fn the_limit_of_the_input_is_12288_bytes() {
+    assert_eq!(output(second::load, &[0; 12_288]), "refused 1 0\n");
+    let over = output(second::load, &[0; 12_289]);
+    assert_eq!(over, "input over 12288 bytes\n");
+}
+
+#[cfg(feature = "proved")]
+mod compiled {
+    use std::io::Write;
+    use std::process::{Command, Stdio};
+    use viertompu_host::bench_cases::b1;
+    use viertompu_host::generate::review_submission;
+    use viertompu_host::review::output;
+    use viertompu_host::second;
+
+    const PROGRAM: &str = concat!(env!("CARGO_MANIFEST_DIR"), "/../review");
+
+    /// The review program's output; it may end before it has read everything.
+    fn printed(submission: &[u8]) -> String {
+        let mut program = Command::new(PROGRAM)
+            .stdin(Stdio::piped())
+            .stdout(Stdio::piped())
+            .stderr(Stdio::piped())
+            .spawn()
+            .expect("the review program starts");
+        let mut input = program.stdin.take().expect("its input is a pipe");
+        let _ = input.write_all(submission);
+        drop(input);
+        let done = program.wait_with_output().expect("the program ends");
+        assert!(done.stderr.is_empty(), "something on standard error");
+        String::from_utf8(done.stdout).expect("the output is text")
+    }
+
+    #[test]
+    fn prints_what_the_second_loader_says() {
+        let fixed = [b1(), Vec::new(), vec![0; 12_288], vec![0; 12_289]];
+        let generated = (0..300).map(|index| review_submission(1, index));
+        for submission in fixed.into_iter().chain(generated) {
+            assert_eq!(printed(&submission), output(second::load, &submission));
+        }
+    }
+}
