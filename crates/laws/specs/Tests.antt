@@ -2,8 +2,7 @@
 --     any f k          f passes at some number below k
 --     allFrom f a n    f passes at each of the n numbers from a on
 --     run f a k        how many of the k numbers from a on pass one after the other, from the first
--- `allFrom` and `run` stay shut elsewhere: their laws are what is known of them, so that no check goes through a range of
--- addresses. `any` opens, for examples with few entries.
+-- Proofs go by the laws of these, so that no check walks through a range of addresses; only worked examples open them.
 -- Assumes nothing.
 use Prim.Native.Nat.{ℕ, zero, suc, _+_}
 use mathlib.Core.Bool.{Bool, true, false, cond, _&&_, _||_}
