@@ -15,7 +15,8 @@ use lib.Seq.{drop-cons, getD-set-same, drop-set-lt, take-set-lt, take-all, lengt
 use Rattle.memory.specs.Patched.{patched}
 use Rattle.memory.specs.PatchedLaws.{patched-append}
 use Rattle.viertompu.specs.Rows.{rows}
-use Rattle.viertompu.specs.Words.{places}
+use Rattle.submission.specs.Format.{moduleLimit}
+use Rattle.image.specs.Judged.{segmentLimit}
 use Rattle.report.specs.Text.{Wrote, blank, newline, hexLength, decimalLength, glyphOf, digitsOf, leadingZeros, decimalText, fieldText}
 use Rattle.report.specs.TextLaws.{length-digits, wrote, wrote-behind}
 use Rattle.report.specs.Report.{refusedWord, numberIn, segmentLine, moduleLine, infoLine, refusalText, reportOf}
@@ -111,10 +112,10 @@ refusal-written w t u v x y m e number item f g h i j =
 
 -- the lines of a load, one behind the other
 pub load-written : (p w u v x : List ℕ) (m n r : ℕ) → numberIn p ≡ 0
-    → Wrote w 0 (rows (segmentLine p) places) u m → Wrote u m (rows (moduleLine p) places) v n → Wrote v n (infoLine p) x r
+    → Wrote w 0 (rows (segmentLine p) segmentLimit) u m → Wrote u m (rows (moduleLine p) moduleLimit) v n → Wrote v n (infoLine p) x r
     → Wrote w 0 (reportOf p) x r
 load-written p w u v x m n r e f g h =
     rw (← report-of-load p e)
-    (wrote-behind w 0 (rows (segmentLine p) places ++ rows (moduleLine p) places) (infoLine p) v x n r
-    (wrote-behind w 0 (rows (segmentLine p) places) (rows (moduleLine p) places) u v m n f g)
+    (wrote-behind w 0 (rows (segmentLine p) segmentLimit ++ rows (moduleLine p) moduleLimit) (infoLine p) v x n r
+    (wrote-behind w 0 (rows (segmentLine p) segmentLimit) (rows (moduleLine p) moduleLimit) u v m n f g)
     h)

@@ -11,8 +11,10 @@ use mathlib.Core.List.{List, [], _∷_, _++_}
 use Prim.Native.Nat.{ℕ, _+_, _*_}
 use lib.Dec.{eqb}
 use lib.ListN.{getD}
+use Rattle.submission.specs.Format.{moduleLimit}
+use Rattle.image.specs.Judged.{segmentLimit}
 use Rattle.viertompu.specs.Rows.{rows}
-use Rattle.viertompu.specs.Words.{segmentsAt, segmentSize, modulesAt, moduleSize, places}
+use Rattle.viertompu.specs.Words.{segmentsAt, segmentSize, modulesAt, moduleSize}
 use Rattle.report.specs.Text.{blank, newline, decimalText, fieldsText}
 
 -- `kernel`, `module `, `info`, `refused `
@@ -73,7 +75,7 @@ refusalText number item = refusedWord ++ (decimalText number ++ (blank ∷ (deci
 unfoldable pub reportOf : List ℕ → List ℕ
 reportOf p =
     cond (eqb (numberIn p) 0)
-    (rows (segmentLine p) places ++ rows (moduleLine p) places ++ infoLine p)
+    (rows (segmentLine p) segmentLimit ++ rows (moduleLine p) moduleLimit ++ infoLine p)
     (refusalText (numberIn p) (itemIn p))
 
 abbrev pub lineLimit : ℕ

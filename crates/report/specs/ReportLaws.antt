@@ -15,9 +15,11 @@ use native.Mathlib.Omega.{arith}
 use borrow.Author.Tests.{eq-eqb, ne-eqb}
 use lib.Dec.{eqb}
 use lib.ListN.{length, getD, length-append}
+use Rattle.submission.specs.Format.{moduleLimit}
+use Rattle.image.specs.Judged.{segmentLimit}
 use Rattle.viertompu.specs.Rows.{rows}
 use Rattle.viertompu.specs.RowLaws.{rows-short}
-use Rattle.viertompu.specs.Words.{segmentsAt, segmentSize, modulesAt, moduleSize, places}
+use Rattle.viertompu.specs.Words.{segmentsAt, segmentSize, modulesAt, moduleSize}
 use Rattle.report.specs.Text.{blank, newline, decimalText, fieldsText}
 use Rattle.report.specs.TextLaws.{decimal-short, length-fields}
 use Rattle.report.specs.Report.{kernelWord, moduleWord, infoWord, refusedWord, numberIn, itemIn, entryIn, blockIn, segmentIn, moduleIn, lineText, segmentLine, moduleLine, infoLine, refusalText, reportOf, lineLimit, reportLimit}
@@ -74,18 +76,18 @@ module _ (p : List ℕ) where
   unfolding reportOf
   report-of-refusal e = rw (ne-eqb _ 0 e) refl
 
-  pub report-of-load : numberIn p ≡ 0 → rows (segmentLine p) places ++ rows (moduleLine p) places ++ infoLine p ≡ reportOf p
+  pub report-of-load : numberIn p ≡ 0 → rows (segmentLine p) segmentLimit ++ rows (moduleLine p) moduleLimit ++ infoLine p ≡ reportOf p
   unfolding reportOf
   report-of-load e = rw (eq-eqb _ 0 e) refl
 
-  all-short : (s t u : List ℕ) → length s ≤ lineLimit * places → length t ≤ lineLimit * places → length u ≤ lineLimit → length (s ++ t ++ u) ≤ reportLimit
+  all-short : (s t u : List ℕ) → length s ≤ lineLimit * segmentLimit → length t ≤ lineLimit * moduleLimit → length u ≤ lineLimit → length (s ++ t ++ u) ≤ reportLimit
   all-short s t u f g h = simp length-append (omega arith)
 
   pub report-short : length (reportOf p) ≤ reportLimit
   unfolding reportOf
   report-short =
-      let segments = rows (segmentLine p) places in
-      let modules = rows (moduleLine p) places in
+      let segments = rows (segmentLine p) segmentLimit in
+      let modules = rows (moduleLine p) moduleLimit in
       short (eqb (numberIn p) 0) (segments ++ modules ++ infoLine p) (refusalText (numberIn p) (itemIn p)) reportLimit
-      (all-short segments modules (infoLine p) (rows-short (segmentLine p) lineLimit (segment-short p) places) (rows-short (moduleLine p) lineLimit (module-short p) places) (omega (arith, length-line infoWord (blockIn p))))
+      (all-short segments modules (infoLine p) (rows-short (segmentLine p) lineLimit (segment-short p) segmentLimit) (rows-short (moduleLine p) lineLimit (module-short p) moduleLimit) (omega (arith, length-line infoWord (blockIn p))))
       (omega (arith, refusal-short (numberIn p) (itemIn p)))

@@ -1,21 +1,23 @@
 // The report on a plan: a line for each segment and module and one for the information block, or one for a refusal. Each
 // function writes its text from an offset on and gives the offset behind it.
+use image::SEGMENTS;
+use submission::MODULES;
 use viertompu::BLOCK_END;
 use viertompu::BLOCK_START;
 use viertompu::ENTRY;
 use viertompu::ITEM;
-use viertompu::MODULE;
-use viertompu::MODULES;
+use viertompu::MODULE_WORDS;
+use viertompu::MODULES_AT;
 use viertompu::NUMBER;
-use viertompu::PLACES;
-use viertompu::SEGMENT;
-use viertompu::SEGMENTS;
+use viertompu::SEGMENT_WORDS;
+use viertompu::SEGMENTS_AT;
 use viertompu::WORDS;
 ghost use mathlib.Core.Path.{_≡_};
 ghost use Prim.Native.Nat.{_+_, _*_, _≤_, _<_, _^_};
 ghost use lib.ListN.{length};
+ghost use Rattle.submission.specs.Format.{moduleLimit};
+ghost use Rattle.image.specs.Judged.{segmentLimit};
 ghost use Rattle.viertompu.specs.Rows.{rows};
-ghost use Rattle.viertompu.specs.Words.{places};
 ghost use Rattle.report.specs.Text.{Wrote};
 ghost use Rattle.report.specs.Report.{lineLimit, reportLimit, lineText, refusalText, segmentLine, moduleLine, reportOf};
 
@@ -52,11 +54,11 @@ fn write_refusal(text: &mut [u8], number: u32, item: u32) -> usize
 
 // Writes a line for each segment.
 fn write_segments(text: &mut [u8], plan: &[u32; WORDS]) -> usize
-    ensures { λ r. ⌜ Wrote (now (text .entry)) 0 (rows (segmentLine (now (plan .entry))) places) (now (text .exit)) r ⌝ }
+    ensures { λ r. ⌜ Wrote (now (text .entry)) 0 (rows (segmentLine (now (plan .entry))) segmentLimit) (now (text .exit)) r ⌝ }
 {
     let mut next = 0;
     let mut i = 0;
-    while i < PLACES {
+    while i < SEGMENTS {
         next = write_segment(text, next, plan, i);
         i += 1;
     }
@@ -65,10 +67,10 @@ fn write_segments(text: &mut [u8], plan: &[u32; WORDS]) -> usize
 
 // Writes the line of a segment; a place whose segment ends at 0 has none.
 fn write_segment(text: &mut [u8], at: usize, plan: &[u32; WORDS], i: usize) -> usize
-    requires { ⌜ (i < places) × (at + lineLimit < 2 ^ 64) ⌝ }
+    requires { ⌜ (i < segmentLimit) × (at + lineLimit < 2 ^ 64) ⌝ }
     ensures { λ r. ⌜ Wrote (now (text .entry)) at (segmentLine (now (plan .entry)) i) (now (text .exit)) r ⌝ }
 {
-    let from = SEGMENTS + SEGMENT * i;
+    let from = SEGMENTS_AT + SEGMENT_WORDS * i;
     let end = plan[from + 2];
     if end == 0 {
         return at;
@@ -79,12 +81,12 @@ fn write_segment(text: &mut [u8], at: usize, plan: &[u32; WORDS], i: usize) -> u
 
 // Writes a line for each module.
 fn write_modules(text: &mut [u8], at: usize, plan: &[u32; WORDS]) -> usize
-    requires { ⌜ at + lineLimit * places < 2 ^ 64 ⌝ }
-    ensures { λ r. ⌜ Wrote (now (text .entry)) at (rows (moduleLine (now (plan .entry))) places) (now (text .exit)) r ⌝ }
+    requires { ⌜ at + lineLimit * moduleLimit < 2 ^ 64 ⌝ }
+    ensures { λ r. ⌜ Wrote (now (text .entry)) at (rows (moduleLine (now (plan .entry))) moduleLimit) (now (text .exit)) r ⌝ }
 {
     let mut next = at;
     let mut i = 0;
-    while i < PLACES {
+    while i < MODULES {
         next = write_module(text, next, plan, i);
         i += 1;
     }
@@ -93,10 +95,10 @@ fn write_modules(text: &mut [u8], at: usize, plan: &[u32; WORDS]) -> usize
 
 // Writes the line of a module with its index; a place whose module ends at 0 has none.
 fn write_module(text: &mut [u8], at: usize, plan: &[u32; WORDS], i: usize) -> usize
-    requires { ⌜ (i < places) × (at + lineLimit < 2 ^ 64) ⌝ }
+    requires { ⌜ (i < moduleLimit) × (at + lineLimit < 2 ^ 64) ⌝ }
     ensures { λ r. ⌜ Wrote (now (text .entry)) at (moduleLine (now (plan .entry)) i) (now (text .exit)) r ⌝ }
 {
-    let from = MODULES + MODULE * i;
+    let from = MODULES_AT + MODULE_WORDS * i;
     let end = plan[from + 1];
     if end == 0 {
         return at;

@@ -11,11 +11,13 @@ use lib.ListN.{length, set, drop, length-append}
 use Rattle.memory.specs.Patched.{patched, zeros}
 use Rattle.memory.specs.PatchedLaws.{patched-append, patched-split}
 use Rattle.address.specs.declared.Span.{Span}
+use Rattle.submission.specs.Format.{moduleLimit}
 use Rattle.image.specs.declared.Kernel.{Kernel}
+use Rattle.image.specs.Judged.{segmentLimit}
 use Rattle.decision.specs.declared.Decision.{Decision}
 use Rattle.viertompu.specs.Rows.{rows}
 use Rattle.viertompu.specs.RowLaws.{stored, length-rows, row-written}
-use Rattle.viertompu.specs.Words.{planLength, segmentSize, moduleSize, segmentsAt, modulesAt, places, headWords, segmentWords, moduleWords, segmentsWords, modulesWords, planWords}
+use Rattle.viertompu.specs.Words.{planLength, segmentSize, moduleSize, segmentsAt, modulesAt, headWords, segmentWords, moduleWords, segmentsWords, modulesWords, planWords}
 
 two-stored : (u : List ℕ) (at x y : ℕ) → set (set u at x) (at + 1) y ≡ patched u at (x ∷ y ∷ [])
 two-stored u at x y =
@@ -43,7 +45,7 @@ module-written w m i u x y p q =
     (two-stored u (modulesAt + moduleSize * i) x y ∙ ap (patched u (modulesAt + moduleSize * i)) q)
 
 -- three parts over zeros, one behind the other
-parts-written : (h s m t u v : List ℕ) → length h ≡ segmentsAt → length s ≡ segmentSize * places → length m ≡ moduleSize * places
+parts-written : (h s m t u v : List ℕ) → length h ≡ segmentsAt → length s ≡ segmentSize * segmentLimit → length m ≡ moduleSize * moduleLimit
     → t ≡ patched (zeros planLength) 0 h → u ≡ patched t segmentsAt s → v ≡ patched u modulesAt m
     → v ≡ h ++ s ++ m ++ zeros 8
 parts-written h s m t u v a b c p q r =
@@ -61,5 +63,5 @@ pub plan-written : (d : Decision) (t u v : List ℕ)
 unfolding headWords planWords
 plan-written d t u v =
     parts-written (headWords d) (segmentsWords (d .plan .kernel)) (modulesWords (d .plan .modules)) t u v refl
-    (length-rows (segmentWords (d .plan .kernel)) segmentSize (λ j. refl) places)
-    (length-rows (moduleWords (d .plan .modules)) moduleSize (λ j. refl) places)
+    (length-rows (segmentWords (d .plan .kernel)) segmentSize (λ j. refl) segmentLimit)
+    (length-rows (moduleWords (d .plan .modules)) moduleSize (λ j. refl) moduleLimit)

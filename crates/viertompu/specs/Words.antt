@@ -1,6 +1,6 @@
 -- The plan as words.                                                                                    rule: PLAN
 --     planLength, segmentsAt, modulesAt            how many words there are, and where segments and modules begin
---     segmentSize, moduleSize, places              the words of one, and how many of them have a place
+--     segmentSize, moduleSize                      how many words each of them has
 --     wordOf                                       an address or an offset as a word
 --     headWords, segmentWords, moduleWords         the words before the segments, of one segment, of one module
 --     segmentsWords, modulesWords                  of all segments, of all modules
@@ -8,13 +8,13 @@
 -- Assumes nothing.
 use mathlib.Core.List.{List, [], _∷_, _++_}
 use Prim.Native.Nat.{ℕ, _%_, _^_}
-use lib.ListN.{getD}
-use Rattle.image.specs.Judged.{segmentNo}
-use Rattle.address.specs.Address.{noSpan}
 use Rattle.memory.specs.Patched.{zeros}
 use Rattle.address.specs.declared.Span.{Span}
+use Rattle.address.specs.Address.{spanNo}
 use Rattle.answer.specs.Answer.{numberOf, itemOf}
+use Rattle.submission.specs.Format.{moduleLimit}
 use Rattle.image.specs.declared.Kernel.{Kernel}
+use Rattle.image.specs.Judged.{segmentLimit, segmentNo}
 use Rattle.decision.specs.declared.Decision.{Decision}
 use Rattle.viertompu.specs.Rows.{rows}
 
@@ -32,9 +32,6 @@ segmentSize = 3
 
 abbrev pub moduleSize : ℕ
 moduleSize = 2
-
-abbrev pub places : ℕ
-places = 16
 
 -- in a load every address and the header's offset are below 2^32
 abbrev pub wordOf : ℕ → ℕ
@@ -59,13 +56,13 @@ segmentWords k i = wordOf (segmentNo k i .start .0) ∷ wordOf (segmentNo k i .l
 
 -- start, end
 abbrev pub moduleWords : List Span → ℕ → List ℕ
-moduleWords m i = wordOf (getD m i noSpan .start .0) ∷ wordOf (getD m i noSpan .end .0) ∷ []
+moduleWords m i = wordOf (spanNo m i .start .0) ∷ wordOf (spanNo m i .end .0) ∷ []
 
 abbrev pub segmentsWords : Kernel → List ℕ
-segmentsWords k = rows (segmentWords k) places
+segmentsWords k = rows (segmentWords k) segmentLimit
 
 abbrev pub modulesWords : List Span → List ℕ
-modulesWords m = rows (moduleWords m) places
+modulesWords m = rows (moduleWords m) moduleLimit
 
 -- and eight zeros
 unfoldable pub planWords : Decision → List ℕ

@@ -2,6 +2,8 @@
 use address::Span;
 use decision::Decision;
 use image::Kernel;
+use image::SEGMENTS;
+use submission::MODULES;
 ghost use mathlib.Core.Path.{_≡_};
 ghost use lib.ListN.{length};
 ghost use Rattle.memory.specs.Patched.{patched};
@@ -32,17 +34,14 @@ pub const BLOCK_START: usize = 6;
 pub const BLOCK_END: usize = 7;
 
 // Segments, of three words each: start, load end, extent end.
-pub const SEGMENTS: usize = 8;
+pub const SEGMENTS_AT: usize = 8;
 
-pub const SEGMENT: usize = 3;
+pub const SEGMENT_WORDS: usize = 3;
 
 // Modules, of two words each: start, end.
-pub const MODULES: usize = 56;
+pub const MODULES_AT: usize = 56;
 
-pub const MODULE: usize = 2;
-
-// How many segments and how many modules have a place.
-pub const PLACES: usize = 16;
+pub const MODULE_WORDS: usize = 2;
 
 // The words of 32 bits are the numbers below this.
 const WORD_RANGE: u64 = 0x100000000;
@@ -100,9 +99,9 @@ fn write_segments(plan: &mut [u32; WORDS], kernel: Kernel)
     ensures { λ _. ⌜ now (plan .exit) ≡ patched (now (plan .entry)) segmentsAt (segmentsWords kernel) ⌝ }
 {
     let mut i = 0;
-    while i < PLACES {
+    while i < SEGMENTS {
         let segment = kernel.segments[i];
-        let at = SEGMENTS + SEGMENT * i;
+        let at = SEGMENTS_AT + SEGMENT_WORDS * i;
         plan[at] = word(segment.start.0);
         plan[at + 1] = word(segment.loaded.0);
         plan[at + 2] = word(segment.end.0);
@@ -111,13 +110,13 @@ fn write_segments(plan: &mut [u32; WORDS], kernel: Kernel)
 }
 
 // Writes the words of the modules.
-fn write_modules(plan: &mut [u32; WORDS], modules: [Span; PLACES])
+fn write_modules(plan: &mut [u32; WORDS], modules: [Span; MODULES])
     ensures { λ _. ⌜ now (plan .exit) ≡ patched (now (plan .entry)) modulesAt (modulesWords modules) ⌝ }
 {
     let mut i = 0;
-    while i < PLACES {
+    while i < MODULES {
         let module = modules[i];
-        let at = MODULES + MODULE * i;
+        let at = MODULES_AT + MODULE_WORDS * i;
         plan[at] = word(module.start.0);
         plan[at + 1] = word(module.end.0);
         i += 1;

@@ -6,7 +6,7 @@ use native.Mathlib.Omega.{arith}
 use lib.ListN.{length}
 use Rattle.viertompu.specs.Rows.{rows}
 use Rattle.viertompu.specs.RowLaws.{rows-short}
-use Rattle.viertompu.specs.Words.{places}
+use Rattle.submission.specs.Format.{moduleLimit}
 use Rattle.report.specs.Text.{Wrote}
 use Rattle.report.specs.TextLaws.{wrote-nothing, wrote-row}
 use Rattle.report.specs.Report.{moduleLine, lineLimit}
@@ -16,10 +16,10 @@ use Rattle.report.proofs.write_modules.Statement.{statement}
 use Rattle.report.proofs.write_modules.Tie as tie
 
 abbrev Inv-loop : tie.InvT-loop
-Inv-loop text₀ at plan next₀ i₀ text next i = (i ≤ places) × Wrote text₀ at (rows (moduleLine plan) i) text next × (length text ≡ length text₀)
+Inv-loop text₀ at plan next₀ i₀ text next i = (i ≤ moduleLimit) × Wrote text₀ at (rows (moduleLine plan) i) text next × (length text ≡ length text₀)
 
 abbrev μ-loop : tie.MeasureT-loop
-μ-loop text₀ at plan next₀ i₀ text next i = places - i
+μ-loop text₀ at plan next₀ i₀ text next i = moduleLimit - i
 
 loop-holds : tie.Need-loop-holds Inv-loop μ-loop
 unfolding rows
@@ -46,7 +46,7 @@ same-length c = search needs
 
 returns : tie.Need-returns Inv-loop μ-loop
 returns c =
-    let e : c .before .loop .i ≡ places = omega arith in
+    let e : c .before .loop .i ≡ moduleLimit = omega arith in
     rw e at (c .before .loop .inv .1)
 
 pub write-modules-spec : {M : Type 1} → statement M

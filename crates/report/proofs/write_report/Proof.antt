@@ -2,7 +2,8 @@
 -- Assumes nothing.
 use native.Mathlib.Omega.{arith}
 use Rattle.viertompu.specs.RowLaws.{rows-short}
-use Rattle.viertompu.specs.Words.{places}
+use Rattle.submission.specs.Format.{moduleLimit}
+use Rattle.image.specs.Judged.{segmentLimit}
 use Rattle.report.specs.Report.{lineLimit, numberIn, itemIn, segmentLine, moduleLine}
 use Rattle.report.specs.ReportLaws.{segment-short, module-short, refusal-short, report-of-refusal, report-short}
 use Rattle.report.proofs.Turns.{load-written}
@@ -36,7 +37,7 @@ write-segments-requires c κs = search needs
 write-modules-requires : tie.Need-write-modules-requires
 write-modules-requires c κs =
     let p = c .before .before .before .before .before .before .before .before .args .plan .now in
-    omega (arith, c .before .before .before .write-segments .ensures .ends, rows-short (segmentLine p) lineLimit (segment-short p) places)
+    omega (arith, c .before .before .before .write-segments .ensures .ends, rows-short (segmentLine p) lineLimit (segment-short p) segmentLimit)
 
 element-copy-out-t9 : tie.Need-element-copy-out-t9
 element-copy-out-t9 c = search needs
@@ -53,7 +54,7 @@ slice-aggregate-write-line-2 c = search needs
 write-line-requires : tie.Need-write-line-requires
 write-line-requires c κs =
     let p = c .before .before .before .before .before .before .before .before .before .before .before .before .before .before .before .before .args .plan .now in
-    omega (arith, c .before .before .before .before .before .before .before .before .before .before .before .write-segments .ensures .ends, c .before .before .before .before .before .before .before .write-modules .ensures .ends, rows-short (segmentLine p) lineLimit (segment-short p) places, rows-short (moduleLine p) lineLimit (module-short p) places)
+    omega (arith, c .before .before .before .before .before .before .before .before .before .before .before .write-segments .ensures .ends, c .before .before .before .before .before .before .before .write-modules .ensures .ends, rows-short (segmentLine p) lineLimit (segment-short p) segmentLimit, rows-short (moduleLine p) lineLimit (module-short p) moduleLimit)
 
 same-length-2 : tie.Need-same-length-2
 same-length-2 c = search needs

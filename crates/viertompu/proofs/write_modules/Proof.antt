@@ -5,7 +5,8 @@ use Prim.Native.Nat.{ℕ, _-_, _≤_}
 use native.Mathlib.Omega.{arith}
 use Rattle.memory.specs.Patched.{patched}
 use Rattle.memory.specs.PatchedLaws.{patched-nil}
-use Rattle.viertompu.specs.Words.{places, modulesAt, moduleWords}
+use Rattle.submission.specs.Format.{moduleLimit}
+use Rattle.viertompu.specs.Words.{modulesAt, moduleWords}
 use Rattle.viertompu.specs.Rows.{rows}
 use Rattle.viertompu.proofs.Turns.{module-written}
 use borrow.Author.Needs.{needs}
@@ -13,10 +14,10 @@ use Rattle.viertompu.proofs.write_modules.Statement.{statement}
 use Rattle.viertompu.proofs.write_modules.Tie as tie
 
 abbrev Inv-loop : tie.InvT-loop
-Inv-loop plan₀ modules i₀ plan i = (i ≤ places) × (plan ≡ patched plan₀ modulesAt (rows (moduleWords modules) i))
+Inv-loop plan₀ modules i₀ plan i = (i ≤ moduleLimit) × (plan ≡ patched plan₀ modulesAt (rows (moduleWords modules) i))
 
 abbrev μ-loop : tie.MeasureT-loop
-μ-loop plan₀ modules i₀ plan i = places - i
+μ-loop plan₀ modules i₀ plan i = moduleLimit - i
 
 loop-holds : tie.Need-loop-holds Inv-loop μ-loop
 unfolding rows
@@ -68,7 +69,7 @@ loop-again c =
 
 returns : tie.Need-returns Inv-loop μ-loop
 returns c =
-    let e : c .before .loop .i ≡ places = omega arith in
+    let e : c .before .loop .i ≡ moduleLimit = omega arith in
     c .before .loop .inv .1 ∙ ap (λ (n : ℕ). patched (c .before .before .args .plan .now) modulesAt (rows (moduleWords (c .before .before .args .t2)) n)) e
 
 pub write-modules-spec : {M : Type 1} → statement M

@@ -5,7 +5,8 @@ use Prim.Native.Nat.{ℕ, _-_, _≤_}
 use native.Mathlib.Omega.{arith}
 use Rattle.memory.specs.Patched.{patched}
 use Rattle.memory.specs.PatchedLaws.{patched-nil}
-use Rattle.viertompu.specs.Words.{places, segmentsAt, segmentWords}
+use Rattle.image.specs.Judged.{segmentLimit}
+use Rattle.viertompu.specs.Words.{segmentsAt, segmentWords}
 use Rattle.viertompu.specs.Rows.{rows}
 use Rattle.viertompu.proofs.Turns.{segment-written}
 use borrow.Author.Needs.{needs}
@@ -13,10 +14,10 @@ use Rattle.viertompu.proofs.write_segments.Statement.{statement}
 use Rattle.viertompu.proofs.write_segments.Tie as tie
 
 abbrev Inv-loop : tie.InvT-loop
-Inv-loop plan₀ kernel i₀ plan i = (i ≤ places) × (plan ≡ patched plan₀ segmentsAt (rows (segmentWords kernel) i))
+Inv-loop plan₀ kernel i₀ plan i = (i ≤ segmentLimit) × (plan ≡ patched plan₀ segmentsAt (rows (segmentWords kernel) i))
 
 abbrev μ-loop : tie.MeasureT-loop
-μ-loop plan₀ kernel i₀ plan i = places - i
+μ-loop plan₀ kernel i₀ plan i = segmentLimit - i
 
 loop-holds : tie.Need-loop-holds Inv-loop μ-loop
 unfolding rows
@@ -80,7 +81,7 @@ loop-again c =
 
 returns : tie.Need-returns Inv-loop μ-loop
 returns c =
-    let e : c .before .loop .i ≡ places = omega arith in
+    let e : c .before .loop .i ≡ segmentLimit = omega arith in
     c .before .loop .inv .1 ∙ ap (λ (n : ℕ). patched (c .before .before .args .plan .now) segmentsAt (rows (segmentWords (c .before .before .args .t2)) n)) e
 
 pub write-segments-spec : {M : Type 1} → statement M
