@@ -29,24 +29,24 @@ extern "C" {
  * returns the number of the first check that refuses, and leaves the window as it was. The buffers may be empty, and then
  * their pointers may be any that are not null. They must not overlap.
  *
- *   0  no check refuses
+ *   0  no check applies: a load
  *   1  the submission is under 12 bytes, or its mark or version is wrong
  *   2  the submission breaks another rule of its format
  *   3  the operator's line is over 255 bytes or holds a zero byte
- *   4  the window ends above the top
- *   5  the memory map is empty, too long, has too many pairs, or a pair is too small or runs past its end
- *   6  the image has no Multiboot header
- *   7  the header asks for something that is not given
- *   8  the header has no address fields
- *   9  the address fields run past the searched part or the image
- *  10  the load would begin before the image
- *  11  no image byte is left to load
- *  12  the load would end before it begins, or past the image
- *  13  the bss would end below the load end
- *  14  the entry is not among the load bytes
+ *   4  the window's first address plus its length is above the top
+ *   5  the map is empty, over 4,096 bytes, has over 32 pairs, or a pair has a size under 20 or runs past the map's end
+ *   6  the image has no header
+ *   7  one of the header's flag bits 2 to 15 is set
+ *   8  the header's flag bit 16 is clear
+ *   9  the 32 bytes of header and address fields do not lie inside both the image and its first 8,192 bytes
+ *  10  load_addr is above header_addr, or their difference is above the header's offset
+ *  11  load_end_addr is 0, and no byte of the image is left from the load offset on
+ *  12  load_end_addr is not 0 and below load_addr, or the load ends beyond the image
+ *  13  bss_end_addr is not 0 and below the load end
+ *  14  entry_addr is below load_addr, or not below the load end
  *  15  an address of the kernel's extent is not open
- *  16  no room for the module of this index (word 1)
- *  17  no room for the information block
+ *  16  there is no room for a module; the item is its index, counted from 0
+ *  17  there is no room for the information block
  */
 uint32_t viertompu_load(const uint8_t *submission, size_t submission_len,
                         const uint8_t *operator_line, size_t operator_len,

@@ -46,39 +46,41 @@ pub struct Plan {
 /// Why a submission is not loaded, in the order of the checks.
 #[derive(Clone, Copy, Debug, PartialEq, Eq)]
 pub enum Refusal {
-    /// 1: the submission is under 12 bytes, does not begin with its mark or is not of version 1
+    /// 1: the submission is under 12 bytes, or its mark or version is wrong
     NotASubmission,
-    /// 2: another rule of the submission's format is broken
+    /// 2: the submission breaks another rule of its format
     BadSubmission,
-    /// 3: the operator's command line is over 255 bytes or holds a zero byte
+    /// 3: the operator's line is over 255 bytes or holds a zero byte
     BadOperatorLine,
-    /// 4: the window would end above 0xFFFFF000
+    /// 4: the window's first address plus its length is above the top
     WindowTooHigh,
-    /// 5: the memory map is empty, too long, or has a pair too many, too small or cut off
+    /// 5: the map is empty, over 4,096 bytes, has over 32 pairs, or a pair has a size under 20 or
+    /// runs past the map's end
     BadMap,
-    /// 6: the image holds no header
+    /// 6: the image has no header
     NoHeader,
-    /// 7: the header demands something by its flag bits 2 to 15
+    /// 7: one of the header's flag bits 2 to 15 is set
     UnknownDemand,
-    /// 8: the header announces no address fields
+    /// 8: the header's flag bit 16 is clear
     NoAddressFields,
-    /// 9: the header's address fields run past the search limit or the image
+    /// 9: the 32 bytes of header and address fields do not lie inside both the image and its first
+    /// 8,192 bytes
     HeaderCutOff,
-    /// 10: the load would begin behind the header or before the image
+    /// 10: load_addr is above header_addr, or their difference is above the header's offset
     LoadOutsideImage,
-    /// 11: the load has no given end and no image byte is left for it
+    /// 11: load_end_addr is 0, and no byte of the image is left from the load offset on
     NothingToLoad,
-    /// 12: the load would end before its start or past the image
+    /// 12: load_end_addr is not 0 and below load_addr, or the load ends beyond the image
     LoadPastImage,
-    /// 13: the bss would end below the load end
+    /// 13: bss_end_addr is not 0 and below the load end
     BssBelowLoadEnd,
-    /// 14: the entry lies outside the loaded bytes
+    /// 14: entry_addr is below load_addr, or not below the load end
     EntryOutsideLoad,
     /// 15: an address of the kernel's extent is not open
     KernelNotOpen,
-    /// 16: no room for the module of this index
+    /// 16: there is no room for a module; the item is its index, counted from 0
     NoRoomForModule(u32),
-    /// 17: no room for the information block
+    /// 17: there is no room for the information block
     NoRoomForBlock,
 }
 

@@ -4,7 +4,7 @@ ghost use Rattle.answer.specs.Answer.{numberOf, itemOf, isLoad, orElse};
 
 // Each refusal stands at its number in the order of checks.
 pub enum Answer {
-    // 0: no check refuses
+    // 0: no check applies: a load
     Load,
     // 1: the submission is under 12 bytes, or its mark or version is wrong
     NotASubmission,
@@ -12,33 +12,33 @@ pub enum Answer {
     BadSubmission,
     // 3: the operator's line is over 255 bytes or holds a zero byte
     BadOperatorLine,
-    // 4: the window ends above the top
+    // 4: the window's first address plus its length is above the top
     WindowPastTop,
-    // 5: the memory map is empty, too long, has too many pairs, or a pair is too small or runs past its end
+    // 5: the map is empty, over 4,096 bytes, has over 32 pairs, or a pair has a size under 20 or runs past the map's end
     BadMemoryMap,
-    // 6: the image has no Multiboot header
+    // 6: the image has no header
     NoHeader,
-    // 7: the header asks for something that is not given
+    // 7: one of the header's flag bits 2 to 15 is set
     UnknownRequest,
-    // 8: the header has no address fields
+    // 8: the header's flag bit 16 is clear
     NoAddressFields,
-    // 9: the address fields run past the searched part or the image
+    // 9: the 32 bytes of header and address fields do not lie inside both the image and its first 8,192 bytes
     HeaderCutOff,
-    // 10: the load would begin before the image
+    // 10: load_addr is above header_addr, or their difference is above the header's offset
     LoadBeforeImage,
-    // 11: no image byte is left to load
+    // 11: load_end_addr is 0, and no byte of the image is left from the load offset on
     NothingToLoad,
-    // 12: the load would end before it begins, or past the image
+    // 12: load_end_addr is not 0 and below load_addr, or the load ends beyond the image
     LoadPastImage,
-    // 13: the bss would end below the load end
+    // 13: bss_end_addr is not 0 and below the load end
     BssBelowLoadEnd,
-    // 14: the entry is not among the load bytes
+    // 14: entry_addr is below load_addr, or not below the load end
     EntryOutsideLoad,
     // 15: an address of the kernel's extent is not open
     KernelNotOpen,
-    // 16: no room for the module of this index
+    // 16: there is no room for a module; the item is its index, counted from 0
     NoRoomForModule(u32),
-    // 17: no room for the information block
+    // 17: there is no room for the information block
     NoRoomForInformation,
 }
 
