@@ -1,3 +1,4 @@
 -- The definitions that the contracts of `address` cite, and their laws.
 pub mod Address
 pub mod RoundLaws
+pub mod InsideLaws

@@ -2,7 +2,7 @@
 ghost use mathlib.Core.Path.{_≡_};
 ghost use Prim.Native.Nat.{_-_, _<_, _^_};
 ghost use lib.Dec.{ltb};
-ghost use Rattle.address.specs.Address.{top, boundaryOf, floor, roundUp, inside};
+ghost use Rattle.address.specs.Address.{top, boundaryOf, floor, roundUp, inside, noSpan};
 
 // A physical address, or the end of a span of them: an exact whole number.
 pub struct PhysAddr(pub u64);
@@ -80,6 +80,16 @@ impl PhysAddr {
 }
 
 impl Span {
+    // A span of zeros.
+    pub fn none() -> Span
+        ensures { λ r. ⌜ r ≡ noSpan ⌝ }
+    {
+        Span {
+            start: PhysAddr(0),
+            end: PhysAddr(0),
+        }
+    }
+
     // Whether the address lies in the span.
     pub fn contains(self, a: PhysAddr) -> bool
         ensures { λ r. ⌜ r ≡ inside (self .start .0) (self .end .0) (a .0) ⌝ }

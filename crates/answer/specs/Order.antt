@@ -1,7 +1,7 @@
 -- Stages of checks, one after the other: a chain answers with its first refusal.
 --     refuses                  every check of a chain has a refusal for its answer
 --     chain-append             where a stage does not refuse, the next one decides
---     or-else-first, -second, -assoc, -same, -load    laws of the first of two answers that refuses
+--     or-else-first, -second, -same, -load    laws of the first of two answers that refuses
 --     passes-is, load-is       a stage passes exactly where its answer is a load; that answer is Load
 --     check-passed             in a chain that ends in a load no check applied
 --     First, numberedFrom      the first check that applies; checks that are numbered one after the other
@@ -49,14 +49,6 @@ or-else-first a b e = rw e
 pub or-else-second : (a b : Answer) → isLoad a ≡ true → orElse a b ≡ b
 unfolding orElse
 or-else-second a b e = rw e
-
-pub or-else-assoc : (a b c : Answer) → orElse (orElse a b) c ≡ orElse a (orElse b c)
-unfolding orElse
-or-else-assoc a b c = by (isLoad a) refl
-  where
-    by : (t : Bool) → isLoad a ≡ t → cond (isLoad (cond (isLoad a) b a)) c (cond (isLoad a) b a) ≡ cond (isLoad a) (cond (isLoad b) c b) a
-    by true e = rw e
-    by false e = rw (e, e)
 
 -- the second answer counts only where the first does not refuse
 pub or-else-same : (a b c : Answer) → (isLoad a ≡ true → b ≡ c) → orElse a b ≡ orElse a c

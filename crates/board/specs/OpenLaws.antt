@@ -13,7 +13,7 @@ use borrow.Author.Tests.{le-ltb}
 use Rattle.laws.specs.Tests.{allFrom}
 use Rattle.laws.specs.TestLaws.{and-left, and-right, all-intro, all-elim}
 use Rattle.address.specs.Address.{inside}
-use Rattle.edge.specs.InsideLaws.{inside-is}
+use Rattle.address.specs.InsideLaws.{inside-is}
 use Rattle.memory_map.specs.Usable.{limit, usableAt}
 use Rattle.memory_map.specs.UsableLaws.{Usable, usable-is}
 use Rattle.board.specs.declared.Board.{Board}

@@ -1,28 +1,27 @@
 -- Check 4 in propositions.
---     window-fits    it passes exactly where the window ends at the top or below
+--     window-refuses    the check on it refuses
+--     window-fits       it passes exactly where the window ends at the top or below
 -- Assumes nothing.
-use mathlib.Core.Path.{_≡_, refl, sym}
-use mathlib.Core.Logic.{⊎-elim, _↔_}
+use mathlib.Core.Path.{_≡_, refl}
+use mathlib.Core.Bool.{true}
+use mathlib.Core.List.{[]}
+use mathlib.Core.Logic.{_↔_}
 use Prim.Native.Nat.{ℕ, _+_, _≤_}
-use native.Mathlib.Omega.{arith}
-use borrow.Author.Tests.{lt-ltb, le-ltb}
+use borrow.Author.Tests.{ltb-false, le-ltb}
+use lib.Dec.{ltb}
 use Rattle.laws.specs.Checks.{firstOf}
-use Rattle.laws.specs.CheckLaws.{none, here, on}
-use Rattle.laws.specs.TestLaws.{lt-or-le}
+use Rattle.answer.specs.Order.{refuses, check-passed}
 use Rattle.address.specs.Address.{top}
 use Rattle.answer.specs.declared.Answer.the-variants.{Load, WindowPastTop}
 use Rattle.board.specs.Window.{windowChecks}
 
+pub window-refuses : (first n : ℕ) → refuses (windowChecks first n) ≡ true
+unfolding refuses windowChecks
+window-refuses first n = refl
+
 pub window-fits : (first n : ℕ) → (firstOf (windowChecks first n) Load ≡ Load) ↔ (first + n ≤ top)
-unfolding windowChecks
+unfolding windowChecks firstOf
 window-fits first n = (
-  λ e.
-      ⊎-elim
-      (λ l.
-      let p : WindowPastTop ≡ firstOf (windowChecks first n) Load = here _ _ _ _ (lt-ltb top (first + n) l) in
-      let z : _≡_ {A = ℕ} 0 1 = cc in
-      absurd (omega arith))
-      (λ l. l)
-      (lt-or-le top (first + n)),
-  λ l. sym (on _ _ _ _ _ (le-ltb top (first + n) l) (none _ _ refl)),
+  λ e. ltb-false _ _ (check-passed (ltb top (first + n)) WindowPastTop [] refl e .0),
+  λ l. rw (le-ltb top (first + n) l) refl,
 )

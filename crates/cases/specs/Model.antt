@@ -8,14 +8,13 @@ use Prim.Native.Nat.{ℕ, _+_, _≤_}
 use Rattle.address.specs.Address.{page}
 use Rattle.memory_map.specs.Usable.{limit}
 use Rattle.placement.specs.declared.Placed.{Placed}
-use Rattle.placement.specs.Model.{computedFrom, items-compute}
 use Rattle.decision.specs.declared.Decision.{Decision}
 use Rattle.decision.specs.Lent.{Lent, layoutIn, kernelIn, boardIn, blockIn}
 use Rattle.decision.specs.Gather.{extentsOf, itemsOf}
 use Rattle.decision.specs.Decided.{kernelChecks, roomChecks, placedBy, planOf, decidedBy}
-use Rattle.decision.specs.Decision.{checks, placedIn, planIn, decisionOf}
-use Rattle.decision.specs.DecisionLaws.{lentChecks, checks-split}
+use Rattle.decision.specs.Decision.{lentChecks, checks, placedIn, decisionOf}
 use Rattle.decision.specs.PlacedLaws.{items-bounded}
+use Rattle.cases.specs.Walk.{computedFrom, items-compute}
 
 unfoldable pub modelIn : Lent → Placed
 modelIn x = computedFrom (boardIn x) (itemsOf (layoutIn x) (kernelIn x .pages) (blockIn x)) (layoutIn x .count + 1) 0 (extentsOf (kernelIn x))
@@ -35,8 +34,8 @@ module _ (x : Lent) (small : x .first + x .size + page ≤ limit) where
   placed-computes = items-compute (boardIn x) (itemsOf (layoutIn x) (kernelIn x .pages) (blockIn x)) small (items-bounded (layoutIn x) (kernelIn x .pages) (blockIn x)) (extentsOf (kernelIn x))
 
   decision-with : decisionOf x ≡ decisionWith x (placedIn x)
-  unfolding decisionOf decisionWith
-  decision-with = rw (checks-split x) refl
+  unfolding decisionOf checks decisionWith
+  decision-with = refl
 
   pub decision-computes : decisionOf x ≡ modelDecision x
   unfolding modelDecision

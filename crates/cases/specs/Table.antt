@@ -1,7 +1,7 @@
 -- Worked examples: each row has an image, with or without the module `hello`, and the length of a window from 0x100000 on,
 -- with usable memory from 0 (0x9FC00 bytes) and from 0x100000 (0x700000 bytes).                          rule: REVIEW
 --     Row, lentOf, rows    the examples
---     outcome              number, item, load offset, the first module's start and the block's end
+--     outcome              number, item, load offset, the first module's start, the information block's start and end
 --     rows-hold            the decision on each row has the outcome that the row gives
 -- Assumes nothing.
 use mathlib.Core.Path.{_≡_, refl, _∙_}
@@ -36,14 +36,13 @@ use Rattle.board.specs.Window.{windowChecks}
 use Rattle.placement.specs.Free.{takenBy, takenAt, freeAt}
 use Rattle.placement.specs.FreeEdge.{takenEdge, freeEdge}
 use Rattle.placement.specs.Order.{withSpan}
-use Rattle.placement.specs.Model.{walk, computed, computedFrom}
 use Rattle.information.specs.Information.{textSize, textsSize, stringLengths, blockLength}
 use Rattle.decision.specs.declared.Decision.{Decision}
 use Rattle.decision.specs.Lent.{Lent}
 use Rattle.decision.specs.Gather.{extentsOf, itemNo, itemsOf, moduleSpans}
 use Rattle.decision.specs.Decided.{extentOpen, kernelOpen, kernelChecks, roomChecks, planOf, noPlan, decidedBy}
-use Rattle.decision.specs.Decision.{decisionOf}
-use Rattle.decision.specs.DecisionLaws.{lentChecks}
+use Rattle.decision.specs.Decision.{lentChecks, decisionOf}
+use Rattle.cases.specs.Walk.{walk, computed, computedFrom}
 use Rattle.cases.specs.Model.{modelIn, decisionWith, modelDecision, decision-computes}
 
 -- an image of so many bytes with a header's words at an offset and zeros elsewhere, whether the module comes with it, the
@@ -85,7 +84,7 @@ lentOf r = record { submission = submissionOf r; operator = []; map = board; fir
 
 abbrev pub outcomeOf : Decision → List ℕ
 outcomeOf d =
-    numberOf (d .answer) ∷ itemOf (d .answer) ∷ segmentNo (d .plan .kernel) 0 .offset .0 ∷ getD (d .plan .modules) 0 noSpan .start .0 ∷ d .plan .block .end .0 ∷ []
+    numberOf (d .answer) ∷ itemOf (d .answer) ∷ segmentNo (d .plan .kernel) 0 .offset .0 ∷ getD (d .plan .modules) 0 noSpan .start .0 ∷ d .plan .block .start .0 ∷ d .plan .block .end .0 ∷ []
 
 -- a header that loads to 0x100000: header_addr, load_end_addr, bss_end_addr, entry_addr, and eight bytes of code
 abbrev loading : ℕ → ℕ → ℕ → ℕ → List ℕ
@@ -94,24 +93,24 @@ loading addr end bss entry = magic ∷ 0x00010001 ∷ 0xE4514FFD ∷ addr ∷ 0x
 unfoldable pub rows : List Row
 rows =
     -- flags 0 has the checksum 0xE4524FFE, and 0x00010001 has 0xE4514FFD: headers, but without address fields, or cut off
-    record { bytes = 12; place = 0; words = magic ∷ 0 ∷ 0xE4524FFE ∷ []; hello = false; window = 0xC000; outcome = 8 ∷ 0 ∷ 0 ∷ 0 ∷ 0 ∷ [] }
-    ∷ record { bytes = 12; place = 0; words = magic ∷ 0x00010001 ∷ 0xE4514FFD ∷ []; hello = false; window = 0xC000; outcome = 9 ∷ 0 ∷ 0 ∷ 0 ∷ 0 ∷ [] }
+    record { bytes = 12; place = 0; words = magic ∷ 0 ∷ 0xE4524FFE ∷ []; hello = false; window = 0xC000; outcome = 8 ∷ 0 ∷ 0 ∷ 0 ∷ 0 ∷ 0 ∷ [] }
+    ∷ record { bytes = 12; place = 0; words = magic ∷ 0x00010001 ∷ 0xE4514FFD ∷ []; hello = false; window = 0xC000; outcome = 9 ∷ 0 ∷ 0 ∷ 0 ∷ 0 ∷ 0 ∷ [] }
     -- the last place that is searched, and the next
-    ∷ record { bytes = 9000; place = 8180; words = magic ∷ 0 ∷ 0xE4524FFE ∷ []; hello = false; window = 0xC000; outcome = 8 ∷ 0 ∷ 0 ∷ 0 ∷ 0 ∷ [] }
-    ∷ record { bytes = 9000; place = 8184; words = magic ∷ 0 ∷ 0xE4524FFE ∷ []; hello = false; window = 0xC000; outcome = 6 ∷ 0 ∷ 0 ∷ 0 ∷ 0 ∷ [] }
+    ∷ record { bytes = 9000; place = 8180; words = magic ∷ 0 ∷ 0xE4524FFE ∷ []; hello = false; window = 0xC000; outcome = 8 ∷ 0 ∷ 0 ∷ 0 ∷ 0 ∷ 0 ∷ [] }
+    ∷ record { bytes = 9000; place = 8184; words = magic ∷ 0 ∷ 0xE4524FFE ∷ []; hello = false; window = 0xC000; outcome = 6 ∷ 0 ∷ 0 ∷ 0 ∷ 0 ∷ 0 ∷ [] }
     -- a load that begins with the image, and one that would begin before it
-    ∷ record { bytes = 56; place = 16; words = loading 0x100010 0 0 0x100020; hello = false; window = 0xC000; outcome = 0 ∷ 0 ∷ 0 ∷ 0 ∷ 0x1000C8 ∷ [] }
-    ∷ record { bytes = 56; place = 12; words = loading 0x100010 0 0 0x100020; hello = false; window = 0xC000; outcome = 10 ∷ 0 ∷ 0 ∷ 0 ∷ 0 ∷ [] }
+    ∷ record { bytes = 56; place = 16; words = loading 0x100010 0 0 0x100020; hello = false; window = 0xC000; outcome = 0 ∷ 0 ∷ 0 ∷ 0 ∷ 0x100038 ∷ 0x1000C8 ∷ [] }
+    ∷ record { bytes = 56; place = 12; words = loading 0x100010 0 0 0x100020; hello = false; window = 0xC000; outcome = 10 ∷ 0 ∷ 0 ∷ 0 ∷ 0 ∷ 0 ∷ [] }
     -- B1 with a load end, a bss end and an entry one too far
-    ∷ record { bytes = 40; place = 0; words = loading 0x100000 0x100029 0x100030 0x100020; hello = true; window = 0xC000; outcome = 12 ∷ 0 ∷ 0 ∷ 0 ∷ 0 ∷ [] }
-    ∷ record { bytes = 40; place = 0; words = loading 0x100000 0 0x100027 0x100020; hello = true; window = 0xC000; outcome = 13 ∷ 0 ∷ 0 ∷ 0 ∷ 0 ∷ [] }
-    ∷ record { bytes = 40; place = 0; words = loading 0x100000 0 0x100030 0x100028; hello = true; window = 0xC000; outcome = 14 ∷ 0 ∷ 0 ∷ 0 ∷ 0 ∷ [] }
+    ∷ record { bytes = 40; place = 0; words = loading 0x100000 0x100029 0x100030 0x100020; hello = true; window = 0xC000; outcome = 12 ∷ 0 ∷ 0 ∷ 0 ∷ 0 ∷ 0 ∷ [] }
+    ∷ record { bytes = 40; place = 0; words = loading 0x100000 0 0x100027 0x100020; hello = true; window = 0xC000; outcome = 13 ∷ 0 ∷ 0 ∷ 0 ∷ 0 ∷ 0 ∷ [] }
+    ∷ record { bytes = 40; place = 0; words = loading 0x100000 0 0x100030 0x100028; hello = true; window = 0xC000; outcome = 14 ∷ 0 ∷ 0 ∷ 0 ∷ 0 ∷ 0 ∷ [] }
     -- B1 in windows that are just long enough for its module, and one byte short
-    ∷ record { bytes = 40; place = 0; words = loading 0x100000 0 0x100030 0x100020; hello = true; window = 0x1005; outcome = 0 ∷ 0 ∷ 0 ∷ 0x101000 ∷ 0x1000D2 ∷ [] }
-    ∷ record { bytes = 40; place = 0; words = loading 0x100000 0 0x100030 0x100020; hello = true; window = 0x1004; outcome = 16 ∷ 0 ∷ 0 ∷ 0 ∷ 0 ∷ [] }
+    ∷ record { bytes = 40; place = 0; words = loading 0x100000 0 0x100030 0x100020; hello = true; window = 0x1005; outcome = 0 ∷ 0 ∷ 0 ∷ 0x101000 ∷ 0x100030 ∷ 0x1000D2 ∷ [] }
+    ∷ record { bytes = 40; place = 0; words = loading 0x100000 0 0x100030 0x100020; hello = true; window = 0x1004; outcome = 16 ∷ 0 ∷ 0 ∷ 0 ∷ 0 ∷ 0 ∷ [] }
     -- without its module, in windows that are just long enough for the information block, and one byte short
-    ∷ record { bytes = 40; place = 0; words = loading 0x100000 0 0x100030 0x100020; hello = false; window = 0xC0; outcome = 0 ∷ 0 ∷ 0 ∷ 0 ∷ 0x1000C0 ∷ [] }
-    ∷ record { bytes = 40; place = 0; words = loading 0x100000 0 0x100030 0x100020; hello = false; window = 0xBF; outcome = 17 ∷ 0 ∷ 0 ∷ 0 ∷ 0 ∷ [] }
+    ∷ record { bytes = 40; place = 0; words = loading 0x100000 0 0x100030 0x100020; hello = false; window = 0xC0; outcome = 0 ∷ 0 ∷ 0 ∷ 0 ∷ 0x100030 ∷ 0x1000C0 ∷ [] }
+    ∷ record { bytes = 40; place = 0; words = loading 0x100000 0 0x100030 0x100020; hello = false; window = 0xBF; outcome = 17 ∷ 0 ∷ 0 ∷ 0 ∷ 0 ∷ 0 ∷ [] }
     ∷ []
 
 -- a window ends a page before 2^32 or earlier, so that the model serves

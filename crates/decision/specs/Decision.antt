@@ -1,4 +1,5 @@
 -- The decision on what is lent: the order of checks, 1 to 17, and the plan.    rules: ANSWERS, PLAN
+--     lentChecks   the checks on what is lent
 --     checks       all checks in their order
 --     answerOf     the answer
 --     placedIn     where the modules and the information block go
@@ -18,27 +19,29 @@ use Rattle.placement.specs.declared.Placed.{Placed}
 use Rattle.decision.specs.declared.Plan.{Plan}
 use Rattle.decision.specs.declared.Decision.{Decision}
 use Rattle.decision.specs.Lent.{Lent, layoutIn, imageIn, kernelIn, boardIn, blockIn}
-use Rattle.decision.specs.Decided.{kernelChecks, roomChecks, placedBy, planOf, decidedBy}
+use Rattle.decision.specs.Decided.{placedBy, memoryChecks, memoryPlan, decidedBy}
 
 abbrev pub placedIn : Lent → Placed
 placedIn x = placedBy (boardIn x) (kernelIn x) (layoutIn x) (blockIn x)
 
--- 1 and 2, 3, 4, 5, 6 to 14, 15, 16 and 17
-unfoldable pub checks : Lent → List (Check Answer)
-checks x =
+-- 1 and 2, 3, 4, 5, 6 to 14
+unfoldable pub lentChecks : Lent → List (Check Answer)
+lentChecks x =
     submissionChecks (x .submission)
     ++ operatorChecks (x .operator)
     ++ windowChecks (x .first) (x .size)
     ++ mapChecks (x .map)
     ++ imageChecks (imageIn x)
-    ++ kernelChecks (boardIn x) (kernelIn x)
-    ++ roomChecks (placedIn x .done) (layoutIn x .count)
+
+-- then 15, 16 and 17
+unfoldable pub checks : Lent → List (Check Answer)
+checks x = lentChecks x ++ memoryChecks (boardIn x) (kernelIn x) (layoutIn x) (blockIn x)
 
 abbrev pub answerOf : Lent → Answer
 answerOf x = firstOf (checks x) Load
 
 abbrev pub planIn : Lent → Plan
-planIn x = planOf (kernelIn x) (placedIn x .spans) (layoutIn x .count)
+planIn x = memoryPlan (boardIn x) (kernelIn x) (layoutIn x) (blockIn x)
 
 unfoldable pub decisionOf : Lent → Decision
 decisionOf x = decidedBy (checks x) (planIn x)

@@ -1,5 +1,5 @@
 -- What the checks before 15 show, and how the decision goes on from them.
---     lentChecks, checks-split    checks 1 to 14, and those on memory behind them
+--     lent-refuses                checks 1 to 14 refuse
 --     answer-is                   the first refusal of the stages is the answer of checks 1 to 14
 --     Passed, passed              what is known where none of them applies
 --     prepared, block-small       so that the items can be placed
@@ -28,67 +28,35 @@ use Rattle.submission.specs.declared.Parsed.{Parsed}
 use Rattle.submission.specs.Format.{moduleCount, moduleLimit, dataLength, stringLength, layoutOf, bytesOf, moduleNo}
 use Rattle.submission.specs.FormatLaws.{layout-count, module-at}
 use Rattle.submission.specs.Rules.{submissionChecks, lineLimit, stringLimit, parsed}
-use Rattle.submission.specs.RuleLaws.{Accepted, accepted, parsed-layout}
+use Rattle.submission.specs.RuleLaws.{Accepted, accepted, submission-refuses, parsed-layout}
 use Rattle.submission.specs.CommandLine.{operatorChecks}
-use Rattle.submission.specs.CommandLineLaws.{line-length}
+use Rattle.submission.specs.CommandLineLaws.{operator-refuses, line-length}
 use Rattle.address.specs.declared.Span.{Span}
 use Rattle.memory_map.specs.declared.MemMap.{MemMap}
 use Rattle.image.specs.declared.Kernel.{Kernel}
 use Rattle.board.specs.declared.Board.{Board}
 use Rattle.board.specs.Window.{windowChecks, windowSpan}
-use Rattle.board.specs.WindowLaws.{window-fits}
+use Rattle.board.specs.WindowLaws.{window-refuses, window-fits}
 use Rattle.memory_map.specs.declared.parse.Parsed.{Parsed as ParsedMap}
 use Rattle.memory_map.specs.Pairs.{mapChecks, badMap, firstPairs, mapOf}
 use Rattle.memory_map.specs.Pairs.{parsed as parsedMap}
-use Rattle.memory_map.specs.PairsLaws.{good-map, load-good, parsed-good}
+use Rattle.memory_map.specs.PairsLaws.{map-refuses, good-map, load-good, parsed-good}
 use Rattle.image.specs.declared.Judged.{Judged}
 use Rattle.image.specs.Judged.{headerChecks, loadChecks, imageChecks, judged}
-use Rattle.image.specs.JudgedLaws.{judged-answer, judged-load}
+use Rattle.image.specs.JudgedLaws.{image-refuses, judged-answer, judged-load}
 use Rattle.image.specs.JudgedLaws.{accepted as accepted-image}
 use Rattle.information.specs.Information.{stringLengths, blockLength}
 use Rattle.information.specs.WritingLaws.{block-bound}
 use Rattle.decision.specs.Lent.{Lent, layoutIn, imageIn, kernelIn, lineIn, boardIn, blockIn}
 use Rattle.decision.specs.Decided.{noPlan, decidedBy, memoryChecks, memoryDecision}
 use Rattle.decision.specs.DecidedLaws.{stage-refuses, stage-passes}
-use Rattle.decision.specs.Decision.{checks, decisionOf}
+use Rattle.decision.specs.Decision.{lentChecks, checks, decisionOf}
 use Rattle.decision.specs.PlacedLaws.{Prepared}
 
-unfoldable pub lentChecks : Lent → List (Check Answer)
-lentChecks x =
-    submissionChecks (x .submission)
-    ++ operatorChecks (x .operator)
-    ++ windowChecks (x .first) (x .size)
-    ++ mapChecks (x .map)
-    ++ imageChecks (imageIn x)
-
 module _ (x : Lent) where
-  pub checks-split : checks x ≡ lentChecks x ++ memoryChecks (boardIn x) (kernelIn x) (layoutIn x) (blockIn x)
-  unfolding checks lentChecks
-  checks-split = simp append-assoc
-
   pub lent-refuses : refuses (lentChecks x) ≡ true
   unfolding refuses lentChecks submissionChecks operatorChecks windowChecks mapChecks headerChecks loadChecks imageChecks
   lent-refuses = refl
-
-  image-refuses : refuses (imageChecks (imageIn x)) ≡ true
-  unfolding refuses headerChecks loadChecks imageChecks
-  image-refuses = refl
-
-  map-refuses : refuses (mapChecks (x .map)) ≡ true
-  unfolding refuses mapChecks
-  map-refuses = refl
-
-  window-refuses : refuses (windowChecks (x .first) (x .size)) ≡ true
-  unfolding refuses windowChecks
-  window-refuses = refl
-
-  operator-refuses : refuses (operatorChecks (x .operator)) ≡ true
-  unfolding refuses operatorChecks
-  operator-refuses = refl
-
-  submission-refuses : refuses (submissionChecks (x .submission)) ≡ true
-  unfolding refuses submissionChecks
-  submission-refuses = refl
 
   lent-right :
       lentChecks x
@@ -105,15 +73,15 @@ module _ (x : Lent) where
   lent-chain =
       rw (
         lent-right,
-        chain-append (submissionChecks (x .submission)) (operatorChecks (x .operator) ++ (windowChecks (x .first) (x .size) ++ (mapChecks (x .map) ++ imageChecks (imageIn x)))) submission-refuses,
-        chain-append (operatorChecks (x .operator)) (windowChecks (x .first) (x .size) ++ (mapChecks (x .map) ++ imageChecks (imageIn x))) operator-refuses,
-        chain-append (windowChecks (x .first) (x .size)) (mapChecks (x .map) ++ imageChecks (imageIn x)) window-refuses,
-        chain-append (mapChecks (x .map)) (imageChecks (imageIn x)) map-refuses,
+        chain-append (submissionChecks (x .submission)) (operatorChecks (x .operator) ++ (windowChecks (x .first) (x .size) ++ (mapChecks (x .map) ++ imageChecks (imageIn x)))) (submission-refuses (x .submission)),
+        chain-append (operatorChecks (x .operator)) (windowChecks (x .first) (x .size) ++ (mapChecks (x .map) ++ imageChecks (imageIn x))) (operator-refuses (x .operator)),
+        chain-append (windowChecks (x .first) (x .size)) (mapChecks (x .map) ++ imageChecks (imageIn x)) (window-refuses (x .first) (x .size)),
+        chain-append (mapChecks (x .map)) (imageChecks (imageIn x)) (map-refuses (x .map)),
       )
 
   -- where the submission is accepted, its layout is the one read
   layout-read : isLoad (firstOf (submissionChecks (x .submission)) Load) ≡ true → parsed (x .submission) .layout ≡ layoutIn x
-  layout-read h = parsed-layout (x .submission) (sym (passes-is (submissionChecks (x .submission)) submission-refuses) ∙ h)
+  layout-read h = parsed-layout (x .submission) (sym (passes-is (submissionChecks (x .submission)) (submission-refuses (x .submission))) ∙ h)
 
   pub answer-is : (v : Answer)
       → v ≡ orElse (parsed (x .submission) .answer)
@@ -142,13 +110,13 @@ module _ (x : Lent) where
       let b = or-else-load _ _ (a .1) in
       let c = or-else-load _ _ (b .1) in
       let d = or-else-load _ _ (c .1) in
-      let r = sym (passes-is (submissionChecks (x .submission)) (submission-refuses x)) ∙ a .0 in
+      let r = sym (passes-is (submissionChecks (x .submission)) (submission-refuses (x .submission))) ∙ a .0 in
       record {
         rules = r;
         submission = accepted (x .submission) r;
-        window = window-fits (x .first) (x .size) .0 (load-is _ (window-refuses x) (c .0));
-        map = load-good (x .map) (load-is _ (map-refuses x) (d .0));
-        image = load-is _ (image-refuses x) (d .1);
+        window = window-fits (x .first) (x .size) .0 (load-is _ (window-refuses (x .first) (x .size)) (c .0));
+        map = load-good (x .map) (load-is _ (map-refuses (x .map)) (d .0));
+        image = load-is _ (image-refuses (imageIn x)) (d .1);
       }
 
 module _ (x : Lent) (p : Passed x) where
@@ -202,12 +170,12 @@ module _ (x : Lent) (r : Parsed) (m : ParsedMap) (i : List ℕ) (j : Judged)
 
 module _ (x : Lent) where
   pub decided-refused : (v : Answer) → v ≡ firstOf (lentChecks x) Load → isLoad v ≡ false → record { answer = v; plan = noPlan } ≡ decisionOf x
-  unfolding decisionOf
-  decided-refused v e h = rw (e, checks-split x) (stage-refuses (lentChecks x) _ _ (lent-refuses x) (rw e at h))
+  unfolding decisionOf checks
+  decided-refused v e h = rw e (stage-refuses (lentChecks x) _ _ (lent-refuses x) (rw e at h))
 
   pub decided-on : isLoad (firstOf (lentChecks x) Load) ≡ true → memoryDecision (boardIn x) (kernelIn x) (layoutIn x) (blockIn x) ≡ decisionOf x
-  unfolding decisionOf
-  decided-on h = rw (checks-split x) (stage-passes (lentChecks x) (memoryChecks (boardIn x) (kernelIn x) (layoutIn x) (blockIn x)) _ (lent-refuses x) h)
+  unfolding decisionOf checks
+  decided-on h = stage-passes (lentChecks x) (memoryChecks (boardIn x) (kernelIn x) (layoutIn x) (blockIn x)) _ (lent-refuses x) h
 
 -- what the last stage is called with
 module _ (x : Lent) (b : Board) (k : Kernel) (l : Layout) (n : ℕ) (be : b ≡ boardIn x) (ke : k ≡ kernelIn x) (le : l ≡ layoutIn x) (ne : n ≡ blockIn x) where

@@ -27,8 +27,8 @@ use Rattle.placement.specs.declared.Spans.{Spans}
 use Rattle.placement.specs.Free.{maxSpans, spanAt}
 use Rattle.placement.specs.Order.{maxItems, itemAt, noItem}
 use Rattle.placement.specs.Ready.{Bounded, ReadyItems}
-use Rattle.placement.specs.Demand.{InOrder, Stands}
-use Rattle.placement.specs.DemandLaws.{board-in-order}
+use Rattle.placement.specs.Placing.{InOrder, Stands}
+use Rattle.placement.specs.PlacingLaws.{board-in-order}
 use Rattle.image.specs.Judged.{segmentLimit}
 use Rattle.decision.specs.Gather.{extentNo, extentsOf, itemNo, itemsOf}
 use Rattle.decision.specs.Decided.{placedBy}

@@ -8,14 +8,14 @@ use mathlib.Core.List.{List, [], _∷_, _++_, append-nil}
 use mathlib.Core.Logic.{⊎-elim}
 use Prim.Native.Nat.{ℕ, _+_, _≤_, _<_}
 use native.Mathlib.Omega.{arith}
-use borrow.Author.Tests.{lt-ltb, le-ltb}
+use borrow.Author.Tests.{ltb-false, not-false}
 use lib.Dec.{ltb}
 use Rattle.laws.specs.Checks.{Check, firstOf}
 use Rattle.laws.specs.TestLaws.{lt-or-le, true-or-false}
 use Rattle.answer.specs.Answer.{isLoad}
-use Rattle.answer.specs.Order.{refuses}
+use Rattle.answer.specs.Order.{refuses, check-passed, load-is}
 use Rattle.answer.specs.declared.Answer.{Answer}
-use Rattle.answer.specs.declared.Answer.the-variants.{Load, KernelNotOpen}
+use Rattle.answer.specs.declared.Answer.the-variants.{Load, KernelNotOpen, NoRoomForModule, NoRoomForInformation}
 use Rattle.submission.specs.declared.Layout.{Layout}
 use Rattle.image.specs.declared.Kernel.{Kernel}
 use Rattle.board.specs.declared.Board.{Board}
@@ -44,22 +44,16 @@ module _ (b : Board) (k : Kernel) where
 
   -- no check of the kernel's memory applies only where its extents are open
   pub kernel-passed : isLoad (firstOf (kernelChecks b k) Load) ≡ true → kernelOpen b k ≡ true
-  unfolding firstOf kernelChecks
-  kernel-passed h =
-      ⊎-elim (λ (e : kernelOpen b k ≡ true). e) (λ (e : kernelOpen b k ≡ false). absurd (false≢true (rw e at h))) (true-or-false (kernelOpen b k))
+  unfolding kernelChecks
+  kernel-passed h = not-false _ (check-passed (not (kernelOpen b k)) KernelNotOpen [] refl (load-is _ kernel-refuses h) .0)
 
 -- no check of the room applies only where all modules and the information block were placed
 pub all-placed : (done n : ℕ) → isLoad (firstOf (roomChecks done n) Load) ≡ true → n + 1 ≤ done
-unfolding firstOf roomChecks
+unfolding refuses roomChecks
 all-placed done n h =
-    ⊎-elim
-    (λ (l : done < n). absurd (false≢true (rw (lt-ltb done n l) at h)))
-    (λ (l : n ≤ done).
-    ⊎-elim
-    (λ (m : done < n + 1). absurd (false≢true (rw (le-ltb done n l, lt-ltb done (n + 1) m) at h)))
-    (λ (m : n + 1 ≤ done). m)
-    (lt-or-le done (n + 1)))
-    (lt-or-le done n)
+    let a = check-passed (ltb done n) (NoRoomForModule done) _ refl (load-is (roomChecks done n) refl h) in
+    let b = check-passed (ltb done (n + 1)) NoRoomForInformation [] refl (a .1) in
+    ltb-false _ _ (b .0)
 
 module _ (b : Board) (k : Kernel) (l : Layout) (size : ℕ) where
   -- the items placed, as the calls hand them over

@@ -18,11 +18,7 @@ pub fn extents(kernel: Kernel) -> Spans
     requires { ⌜ kernel .count ≤ segmentLimit ⌝ }
     ensures { λ r. ⌜ r ≡ extentsOf kernel ⌝ }
 {
-    let none = Span {
-        start: PhysAddr(0),
-        end: PhysAddr(0),
-    };
-    let mut list = [none; placement::SPANS];
+    let mut list = [Span::none(); placement::SPANS];
     let mut i = 0;
     while i < kernel.count {
         list[i] = extent(kernel, i);
@@ -83,11 +79,7 @@ pub fn module_spans(spans: Spans, from: usize, count: usize) -> [Span; submissio
     requires { ⌜ (count ≤ moduleLimit) × (from + count ≤ maxSpans) ⌝ }
     ensures { λ r. ⌜ r ≡ moduleSpans spans from count ⌝ }
 {
-    let none = Span {
-        start: PhysAddr(0),
-        end: PhysAddr(0),
-    };
-    let mut list = [none; submission::MODULES];
+    let mut list = [Span::none(); submission::MODULES];
     let mut i = 0;
     while i < count {
         list[i] = spans.list[from + i];

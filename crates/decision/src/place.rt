@@ -23,7 +23,7 @@ ghost use Rattle.decision.specs.Decided.{kernelOpen, roomChecks, planOf,
 const BOOT_MAGIC: u32 = 0x2BADB002;
 
 // Whether every address of the kernel's extents is open.
-pub fn kernel_open(board: Board, kernel: Kernel) -> bool
+fn kernel_open(board: Board, kernel: Kernel) -> bool
     requires { ⌜ Checked board × (kernel .count ≤ segmentLimit) ⌝ }
     ensures { λ r. ⌜ r ≡ kernelOpen board kernel ⌝ }
 {
@@ -38,7 +38,7 @@ pub fn kernel_open(board: Board, kernel: Kernel) -> bool
 }
 
 // The answer where `done` of n modules and the information block found room.
-pub fn check_room(done: usize, n: usize) -> Answer
+fn check_room(done: usize, n: usize) -> Answer
     requires { ⌜ n ≤ moduleLimit ⌝ }
     ensures { λ r. ⌜ r ≡ firstOf (roomChecks done n) Answer.Load ⌝ }
 {
@@ -52,7 +52,7 @@ pub fn check_room(done: usize, n: usize) -> Answer
 }
 
 // The plan of n modules and the information block, placed behind the kernel's extents.
-pub fn plan_of(kernel: Kernel, spans: Spans, n: usize) -> Plan
+fn plan_of(kernel: Kernel, spans: Spans, n: usize) -> Plan
     requires { ⌜ (n ≤ moduleLimit) × (kernel .count + n < maxSpans) × (spanAt spans (kernel .count + n) .start .0 < 2 ^ 32) ⌝ }
     ensures { λ r. ⌜ r ≡ planOf kernel spans n ⌝ }
 {
@@ -71,16 +71,12 @@ pub fn plan_of(kernel: Kernel, spans: Spans, n: usize) -> Plan
 pub fn refuse(a: Answer) -> Decision
     ensures { λ r. ⌜ r ≡ record { answer = a; plan = noPlan } ⌝ }
 {
-    let none = Span {
-        start: PhysAddr(0),
-        end: PhysAddr(0),
-    };
     Decision {
         answer: a,
         plan: Plan {
             kernel: image::no_kernel(),
-            modules: [none; submission::MODULES],
-            block: none,
+            modules: [Span::none(); submission::MODULES],
+            block: Span::none(),
             eax: 0,
             ebx: 0,
         },

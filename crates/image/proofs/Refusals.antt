@@ -12,7 +12,7 @@ use lib.Dec.{eqb}
 use lib.ListN.{length}
 use Rattle.laws.specs.Checks.{firstOf}
 use Rattle.laws.specs.CheckLaws.{chain}
-use Rattle.answer.specs.Answer.{numberOf}
+use Rattle.answer.specs.Answer.{isLoad}
 use Rattle.answer.specs.declared.Answer.{Answer}
 use Rattle.answer.specs.declared.Answer.the-variants.{Load, NoHeader, UnknownRequest, NoAddressFields, HeaderCutOff, LoadBeforeImage}
 use Rattle.address.specs.declared.ImageOffset.{ImageOffset}
@@ -38,7 +38,7 @@ pub offset-below : (h : Fields) (at o : ImageOffset) (r : Search) → r ≡ cond
 offset-below h at o r found one = omega (arith, chosen-one (beforeImage h (at .0)) r (record { 0 = loadOffset h (at .0) }) o found one)
 
 -- a refusal by the first check that applies
-refusal-is : (a : Answer) (image : List ℕ) → eqb (numberOf a) 0 ≡ false → a ≡ firstOf (imageChecks image) Load → refused a ≡ judged image
+refusal-is : (a : Answer) (image : List ℕ) → isLoad a ≡ false → a ≡ firstOf (imageChecks image) Load → refused a ≡ judged image
 unfolding withKernel judged
 refusal-is a image e f = rw (← f, e)
 

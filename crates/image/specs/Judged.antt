@@ -2,6 +2,8 @@
 --     noHeader, offsetOf                     what the header search found: 6
 --     unknownRequest, noAddresses, cutOff, beforeImage, nothingLeft, pastImage, bssBelow, entryOutside
 --                                            the conditions of 7 to 14
+--     headerOffset, headerFlags, headerFields, firstLoaded, countLoaded
+--                                            what an image's header says
 --     headerChecks, loadChecks               the checks on the header, 6 to 10, and on the load, 11 to 14
 --     imageChecks                            both, in order
 --     segmentLimit, noSegment, noKernel      the most segments, and zeros
@@ -15,7 +17,7 @@ use Prim.Native.Nat.{ℕ, _+_, _-_, _/_, _%_, _^_}
 use lib.Dec.{eqb, leb, ltb}
 use lib.ListN.{length, getD, replicate}
 use Rattle.laws.specs.Checks.{Check, _gives_, firstOf}
-use Rattle.answer.specs.Answer.{numberOf}
+use Rattle.answer.specs.Answer.{isLoad}
 use Rattle.answer.specs.declared.Answer.{Answer}
 use Rattle.answer.specs.declared.Answer.the-variants.{Load, NoHeader, UnknownRequest, NoAddressFields, HeaderCutOff, LoadBeforeImage, NothingToLoad, LoadPastImage, BssBelowLoadEnd, EntryOutsideLoad}
 use Rattle.image.specs.declared.header.Search.{Search}
@@ -69,15 +71,30 @@ bssBelow h e = not (eqb (h .bss .0) 0) && ltb (h .bss .0) e
 abbrev pub entryOutside : Fields → ℕ → Bool
 entryOutside h e = ltb (h .entry .0) (h .load .0) || leb e (h .entry .0)
 
+-- of an image: where its header stands, what that says, and which of the image's bytes are loaded
+abbrev pub headerOffset : List ℕ → ℕ
+headerOffset image = offsetOf (header image)
+
+abbrev pub headerFlags : List ℕ → ℕ
+headerFlags image = flagsAt image (headerOffset image)
+
+abbrev pub headerFields : List ℕ → Fields
+headerFields image = fieldsAt image (headerOffset image)
+
+abbrev pub firstLoaded : List ℕ → ℕ
+firstLoaded image = loadOffset (headerFields image) (headerOffset image)
+
+abbrev pub countLoaded : List ℕ → ℕ
+countLoaded image = loadLength (headerFields image) (firstLoaded image) (length image)
+
 -- the checks on the header
 unfoldable pub headerChecks : List ℕ → List (Check Answer)
 headerChecks image =
-    let o = offsetOf (header image) in
     noHeader (header image) gives NoHeader
-    ∷ unknownRequest (flagsAt image o) gives UnknownRequest
-    ∷ noAddresses (flagsAt image o) gives NoAddressFields
-    ∷ cutOff o (length image) gives HeaderCutOff
-    ∷ beforeImage (fieldsAt image o) o gives LoadBeforeImage
+    ∷ unknownRequest (headerFlags image) gives UnknownRequest
+    ∷ noAddresses (headerFlags image) gives NoAddressFields
+    ∷ cutOff (headerOffset image) (length image) gives HeaderCutOff
+    ∷ beforeImage (headerFields image) (headerOffset image) gives LoadBeforeImage
     ∷ []
 
 -- the checks on the load of `len` bytes from `offset` on, of an image of n bytes
@@ -91,11 +108,7 @@ loadChecks h offset len n =
 
 -- all of them, in order
 unfoldable pub imageChecks : List ℕ → List (Check Answer)
-imageChecks image =
-    let o = offsetOf (header image) in
-    let h = fieldsAt image o in
-    let offset = loadOffset h o in
-    headerChecks image ++ loadChecks h offset (loadLength h offset (length image)) (length image)
+imageChecks image = headerChecks image ++ loadChecks (headerFields image) (firstLoaded image) (countLoaded image) (length image)
 
 -- at most so many segments
 abbrev pub segmentLimit : ℕ
@@ -122,19 +135,15 @@ kernelAt h pages o offset len =
 
 -- the kernel that an image asks for
 unfoldable pub kernelOf : List ℕ → Kernel
-kernelOf image =
-    let o = offsetOf (header image) in
-    let h = fieldsAt image o in
-    let offset = loadOffset h o in
-    kernelAt h (onPages (flagsAt image o)) o offset (loadLength h offset (length image))
+kernelOf image = kernelAt (headerFields image) (onPages (headerFlags image)) (headerOffset image) (firstLoaded image) (countLoaded image)
 
 -- a refusal comes with zeros
 abbrev pub refused : Answer → Judged
 refused a = record { answer = a; kernel = noKernel }
 
--- a load, number 0, comes with its kernel
+-- a load comes with its kernel
 unfoldable pub withKernel : Answer → Kernel → Judged
-withKernel a k = record { answer = a; kernel = cond (eqb (numberOf a) 0) k noKernel }
+withKernel a k = record { answer = a; kernel = cond (isLoad a) k noKernel }
 
 -- the first check that applies gives the answer
 unfoldable pub judged : List ℕ → Judged

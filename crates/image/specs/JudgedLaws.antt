@@ -1,16 +1,18 @@
 -- What is known of an image that no check refuses, and of the kernel that it asks for.
---     judged-answer, judged-load, judged-refusal    the parts of the answer for an image
---     not-cut-off                                   a check that did not apply
+--     judged-answer, judged-load                    the parts of the answer for an image
+--     image-refuses                                 the checks on it refuse
+--     Passed, passed, not-cut-off                   no check applies
 --     segment                                       the kernel's one segment
 --     Accepted, accepted                            where its header, its load bytes and its entry lie
+--     Calculated, calculated                        its addresses, by the numbers in the header
 --     Small, small                                  how large its addresses are
 -- Assumes nothing.
 use mathlib.Core.Path.{_≡_, refl, sym, _∙_}
 use mathlib.Core.Bool.{Bool, true, false, not, _&&_, false≢true}
 use mathlib.Core.List.{List, _∷_}
-use Prim.Native.Nat.{ℕ, zero, suc, _+_, _-_, _^_, _≤_, _<_}
+use Prim.Native.Nat.{ℕ, zero, suc, _+_, _-_, _^_, _≤_, _<_, max}
 use native.Mathlib.Omega.{arith}
-use borrow.Author.Tests.{ltb-false, leb-false}
+use borrow.Author.Tests.{ltb-false, leb-false, eq-eqb, ne-eqb}
 use lib.Dec.{eqb, leb, ltb}
 use lib.ListN.{length, getD, replicate}
 use Rattle.laws.specs.Checks.{firstOf}
@@ -18,8 +20,7 @@ use Rattle.laws.specs.TestLaws.{or-none-left, or-none-right}
 use Rattle.number.specs.Number.{numberAt}
 use Rattle.number.specs.NumberLaws.{Bytes, bytes-drop, number-bound}
 use Rattle.laws.specs.TableLaws.{replicate-at}
-use Rattle.answer.specs.Answer.{numberOf}
-use Rattle.answer.specs.Order.{check-passed}
+use Rattle.answer.specs.Order.{refuses, check-passed}
 use Rattle.answer.specs.declared.Answer.{Answer}
 use Rattle.answer.specs.declared.Answer.the-variants.{Load, NoHeader, UnknownRequest, NoAddressFields, HeaderCutOff, LoadBeforeImage, NothingToLoad, LoadPastImage, BssBelowLoadEnd, EntryOutsideLoad}
 use Rattle.image.specs.declared.header.Search.{Search}
@@ -28,8 +29,8 @@ use Rattle.image.specs.declared.load.Fields.{Fields}
 use Rattle.image.specs.declared.Segment.{Segment}
 use Rattle.image.specs.declared.Kernel.{Kernel}
 use Rattle.image.specs.Header.{searched, header}
-use Rattle.image.specs.Load.{flagsAt, fieldsAt, wholeLength, onPages, loadOffset, loadLength, loadEnd}
-use Rattle.image.specs.Judged.{noHeader, offsetOf, unknownRequest, noAddresses, cutOff, beforeImage, nothingLeft, pastImage, bssBelow, entryOutside, headerChecks, loadChecks, imageChecks, noSegment, segmentNo, noKernel, kernelAt, kernelOf, withKernel, judged}
+use Rattle.image.specs.Load.{flagsAt, fieldsAt, wholeLength, onPages, loadLength, loadEnd}
+use Rattle.image.specs.Judged.{noHeader, offsetOf, headerOffset, headerFlags, headerFields, firstLoaded, countLoaded, unknownRequest, noAddresses, cutOff, beforeImage, nothingLeft, pastImage, bssBelow, entryOutside, headerChecks, loadChecks, imageChecks, noSegment, segmentNo, kernelAt, kernelOf, withKernel, judged}
 
 module _ (image : List ℕ) where
   pub judged-answer : judged image .answer ≡ firstOf (imageChecks image) Load
@@ -41,10 +42,33 @@ module _ (image : List ℕ) where
   unfolding judged withKernel
   judged-load e = rw e
 
-  -- a refusal comes with zeros
-  pub judged-refusal : eqb (numberOf (firstOf (imageChecks image) Load)) 0 ≡ false → judged image .kernel ≡ noKernel
-  unfolding judged withKernel
-  judged-refusal e = rw e
+  pub image-refuses : refuses (imageChecks image) ≡ true
+  unfolding refuses headerChecks loadChecks imageChecks
+  image-refuses = refl
+
+-- no check applies to the image
+pub record Passed (image : List ℕ) : Type 0 where
+  pub found : noHeader (header image) ≡ false
+  pub whole : cutOff (headerOffset image) (length image) ≡ false
+  pub after : beforeImage (headerFields image) (headerOffset image) ≡ false
+  pub within : pastImage (headerFields image) (firstLoaded image) (countLoaded image) (length image) ≡ false
+  pub entered : entryOutside (headerFields image) (loadEnd (headerFields image) (countLoaded image)) ≡ false
+
+pub passed : (image : List ℕ) → firstOf (imageChecks image) Load ≡ Load → Passed image
+unfolding imageChecks headerChecks loadChecks
+passed image e =
+    let h = headerFields image in
+    let end = loadEnd h (countLoaded image) in
+    let r6 = check-passed (noHeader (header image)) NoHeader _ refl e in
+    let r7 = check-passed (unknownRequest (headerFlags image)) UnknownRequest _ refl (r6 .1) in
+    let r8 = check-passed (noAddresses (headerFlags image)) NoAddressFields _ refl (r7 .1) in
+    let r9 = check-passed (cutOff (headerOffset image) (length image)) HeaderCutOff _ refl (r8 .1) in
+    let r10 = check-passed (beforeImage h (headerOffset image)) LoadBeforeImage _ refl (r9 .1) in
+    let r11 = check-passed (nothingLeft h (firstLoaded image) (length image)) NothingToLoad _ refl (r10 .1) in
+    let r12 = check-passed (pastImage h (firstLoaded image) (countLoaded image) (length image)) LoadPastImage _ refl (r11 .1) in
+    let r13 = check-passed (bssBelow h end) BssBelowLoadEnd _ refl (r12 .1) in
+    let r14 = check-passed (entryOutside h end) EntryOutsideLoad _ refl (r13 .1) in
+    record { found = r6 .0; whole = r9 .0; after = r10 .0; within = r12 .0; entered = r14 .0 }
 
 -- the conditions of the checks, where they do not hold
 there : (r : Search) → noHeader r ≡ false → r ≡ At (record { 0 = offsetOf r })
@@ -63,8 +87,14 @@ not-before h o e =
     let q = ltb o (h .header .0 - h .load .0) in
     (ltb-false _ _ (or-none-left p q e), ltb-false _ _ (or-none-right p q e))
 
-not-past : (h : Fields) (offset len n : ℕ) → pastImage h offset len n ≡ false → offset + len ≤ n
-not-past h offset len n e = ltb-false _ _ (or-none-right (not (eqb (h .end .0) 0) && ltb (h .end .0) (h .load .0)) (ltb n (offset + len)) e)
+module _ (h : Fields) (offset len n : ℕ) (e : pastImage h offset len n ≡ false) where
+  not-past : offset + len ≤ n
+  not-past = ltb-false _ _ (or-none-right (not (eqb (h .end .0) 0) && ltb (h .end .0) (h .load .0)) (ltb n (offset + len)) e)
+
+  not-early : (h .end .0 ≡ 0 → ⊥) → h .load .0 ≤ h .end .0
+  not-early z =
+      let f = or-none-left (not (eqb (h .end .0) 0) && ltb (h .end .0) (h .load .0)) (ltb n (offset + len)) e in
+      ltb-false _ _ (rw (ne-eqb (h .end .0) 0 z) at f)
 
 not-outside : (h : Fields) (end : ℕ) → entryOutside h end ≡ false → (h .load .0 ≤ h .entry .0) × (h .entry .0 < end)
 not-outside h end e =
@@ -96,34 +126,46 @@ past-first s n zero l = absurd (omega arith)
 past-first s n (suc i) l = replicate-at n i noSegment
 
 pub accepted : (image : List ℕ) → firstOf (imageChecks image) Load ≡ Load → Accepted image (kernelOf image)
-unfolding imageChecks headerChecks loadChecks kernelOf kernelAt
+unfolding kernelOf kernelAt
 accepted image e =
-    let o = offsetOf (header image) in
-    let h = fieldsAt image o in
-    let offset = loadOffset h o in
-    let len = loadLength h offset (length image) in
-    let r6 = check-passed (noHeader (header image)) NoHeader _ refl e in
-    let r7 = check-passed (unknownRequest (flagsAt image o)) UnknownRequest _ refl (r6 .1) in
-    let r8 = check-passed (noAddresses (flagsAt image o)) NoAddressFields _ refl (r7 .1) in
-    let r9 = check-passed (cutOff o (length image)) HeaderCutOff _ refl (r8 .1) in
-    let r10 = check-passed (beforeImage h o) LoadBeforeImage _ refl (r9 .1) in
-    let r11 = check-passed (nothingLeft h offset (length image)) NothingToLoad _ refl (r10 .1) in
-    let r12 = check-passed (pastImage h offset len (length image)) LoadPastImage _ refl (r11 .1) in
-    let r13 = check-passed (bssBelow h (loadEnd h len)) BssBelowLoadEnd _ refl (r12 .1) in
-    let r14 = check-passed (entryOutside h (loadEnd h len)) EntryOutsideLoad _ refl (r13 .1) in
-    let at = not-cut-off o (length image) (r9 .0) in
-    let entry = not-outside h (loadEnd h len) (r14 .0) in
+    let p = passed image e in
+    let at = not-cut-off (headerOffset image) (length image) (p .whole) in
+    let entry = not-outside (headerFields image) (loadEnd (headerFields image) (countLoaded image)) (p .entered) in
     record {
-      found = there (header image) (r6 .0);
+      found = there (header image) (p .found);
       early = at .0;
       whole = at .1;
       pages = refl;
       one = refl;
       rest = past-first _ 15;
-      inside = omega (arith, not-past h offset len (length image) (r12 .0));
+      inside = omega (arith, not-past (headerFields image) (firstLoaded image) (countLoaded image) (length image) (p .within));
       low = entry .0;
       high = entry .1;
       end = omega arith;
+    }
+
+-- the load calculation, in the numbers that stand in the header: header_addr at 12, load_addr at 16, load_end_addr at 20,
+-- bss_end_addr at 24, entry_addr at 28
+pub record Calculated (image : List ℕ) (k : Kernel) : Type 0 where
+  pub start : segment k .start .0 ≡ numberAt 4 image (k .header .0 + 16)
+  pub offset : segment k .offset .0 + numberAt 4 image (k .header .0 + 12) ≡ k .header .0 + numberAt 4 image (k .header .0 + 16)
+  pub whole : numberAt 4 image (k .header .0 + 20) ≡ 0 → segment k .loaded .0 ≡ segment k .start .0 + (length image - segment k .offset .0)
+  pub given : (numberAt 4 image (k .header .0 + 20) ≡ 0 → ⊥) → segment k .loaded .0 ≡ numberAt 4 image (k .header .0 + 20)
+  pub end : segment k .end .0 ≡ max (segment k .loaded .0) (numberAt 4 image (k .header .0 + 24))
+  pub entry : k .entry .0 ≡ numberAt 4 image (k .header .0 + 28)
+
+pub calculated : (image : List ℕ) → firstOf (imageChecks image) Load ≡ Load → Calculated image (kernelOf image)
+unfolding kernelOf kernelAt fieldsAt loadLength
+calculated image e =
+    let p = passed image e in
+    let b = not-before (headerFields image) (headerOffset image) (p .after) in
+    record {
+      start = refl;
+      offset = omega arith;
+      whole = λ z. rw (eq-eqb _ 0 z) refl;
+      given = λ z. rw (ne-eqb _ 0 z) (omega (arith, not-early (headerFields image) (firstLoaded image) (countLoaded image) (length image) (p .within) z));
+      end = refl;
+      entry = refl;
     }
 
 -- the addresses of an image of bytes: fields below 2^32, and the ends as far above as the image is long
@@ -138,7 +180,7 @@ word-small image at b = number-bound 4 _ (bytes-drop at image b)
 pub small : (image : List ℕ) → Bytes image → firstOf (imageChecks image) Load ≡ Load → Small image (kernelOf image)
 unfolding fieldsAt kernelOf kernelAt
 small image b e =
-    let o = offsetOf (header image) in
+    let o = headerOffset image in
     let k = accepted image e in
     record {
       start = word-small image (o + 16) b;

@@ -6,4 +6,3 @@ pub mod Load
 pub mod Narrow
 pub mod Judged
 pub mod JudgedLaws
-pub mod Examples

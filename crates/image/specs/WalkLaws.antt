@@ -34,20 +34,20 @@ words-two s h =
 words-three : (s : List ℕ) → headerLength ≤ length s → words s ≡ number 4 s ∷ number 4 (drop 4 s) ∷ number 4 (drop 8 s) ∷ words (drop 12 s)
 words-three s h = rw (words-cons s (omega arith)) (ap (λ (l : List ℕ). number 4 s ∷ l) (words-two s h))
 
-pub here : (at m f k : ℕ) (ws : List ℕ) → isHeader m f k ≡ true → headerFrom at (m ∷ f ∷ k ∷ ws) ≡ At (record { 0 = at })
+header-here : (at m f k : ℕ) (ws : List ℕ) → isHeader m f k ≡ true → headerFrom at (m ∷ f ∷ k ∷ ws) ≡ At (record { 0 = at })
 unfolding headerFrom
-here at m f k ws e = rw e
+header-here at m f k ws e = rw e
 
-pub on : (at m f k : ℕ) (ws : List ℕ) → isHeader m f k ≡ false → headerFrom at (m ∷ f ∷ k ∷ ws) ≡ headerFrom (at + 4) (f ∷ k ∷ ws)
+header-on : (at m f k : ℕ) (ws : List ℕ) → isHeader m f k ≡ false → headerFrom at (m ∷ f ∷ k ∷ ws) ≡ headerFrom (at + 4) (f ∷ k ∷ ws)
 unfolding headerFrom
-on at m f k ws e = rw e
+header-on at m f k ws e = rw e
 
 module _ (at : ℕ) (s : List ℕ) (h : headerLength ≤ length s) where
   found-here : isHeader (number 4 s) (number 4 (drop 4 s)) (number 4 (drop 8 s)) ≡ true → headerFrom at (words s) ≡ At (record { 0 = at })
-  found-here e = rw (words-three s h) (here at _ _ _ _ e)
+  found-here e = rw (words-three s h) (header-here at _ _ _ _ e)
 
   passed : isHeader (number 4 s) (number 4 (drop 4 s)) (number 4 (drop 8 s)) ≡ false → headerFrom at (words s) ≡ headerFrom (at + 4) (words (drop 4 s))
-  passed e = rw (words-three s h, words-two s h) (on at _ _ _ _ e)
+  passed e = rw (words-three s h, words-two s h) (header-on at _ _ _ _ e)
 
 module _ (at : ℕ) (s : List ℕ) (h : at + headerLength ≤ length s) where
   -- a header at a place is found there

@@ -142,7 +142,7 @@ pub fn no_kernel() -> Kernel
 fn with_kernel(answer: Answer, kernel: Kernel) -> Judged
     ensures { λ r. ⌜ r ≡ withKernel answer kernel ⌝ }
 {
-    if answer::number(answer) == 0 {
+    if answer::is_load(answer) {
         Judged { answer, kernel }
     } else {
         refusal(answer)

@@ -72,22 +72,25 @@ pub fn load_offset(h: Fields, header: ImageOffset) -> Search
     Search::At(ImageOffset(header.0 - back))
 }
 
-// How far `to` lies behind `from`; 0 where it does not.
-fn distance(from: u64, to: u64) -> u64
-    ensures { λ r. ⌜ r ≡ to - from ⌝ }
-{
-    if from < to { to - from } else { 0 }
-}
-
 // How many of the image's n bytes are loaded.
 pub fn load_length(h: Fields, offset: ImageOffset, n: usize) -> usize
     ensures { λ r. ⌜ r ≡ loadLength h (offset .0) n ⌝ }
 {
     if h.end.0 == 0 {
-        distance(offset.0 as u64, n as u64) as usize
+        bytes_from(offset, n)
     } else {
-        distance(h.load.0, h.end.0) as usize
+        h.end.offset_from(h.load)
     }
+}
+
+// How many of an image's n bytes stand from the offset on.
+fn bytes_from(offset: ImageOffset, n: usize) -> usize
+    ensures { λ r. ⌜ r ≡ n - offset .0 ⌝ }
+{
+    if n < offset.0 {
+        return 0;
+    }
+    n - offset.0
 }
 
 // Where the load ends.

@@ -2,7 +2,8 @@
 --     length-block                                             its length, wherever it stands
 --     from-map, from-name, from-line, from-strings, from-string  what stands in the block from an offset on
 --     map-stands, name-stands, line-stands, string-stands      each part stands where its address says
---     text-taken                                               a text that stands somewhere is read back
+--     text-taken                                               a text that stands somewhere is read back with its zero
+--     texts-room                                               a text and those before it lie among all texts
 --     structure-word, fields, word-zero                        the words of the structure: its fields, and zero elsewhere
 --     entry-reads                                              the words of a module's entry
 -- Assumes nothing.
@@ -15,6 +16,7 @@ use native.Mathlib.Omega.{arith}
 use lib.ListN.{length, getD, set, take, drop, length-append, length-map, List·getD-append, List·getD-map}
 use lib.Seq.{drop-nil, drop-cons, drop-drop, take-at, drop-at, getD-append-add, drop-append-add, getD-set-other}
 use Rattle.memory.specs.Patched.{zeros}
+use Rattle.laws.specs.TableLaws.{replicate-at}
 use Rattle.number.specs.Number.{numberAt, wordBytes}
 use Rattle.number.specs.NumberLaws.{length-wordBytes, word-at}
 use Rattle.information.specs.declared.Structure.{Structure}
@@ -63,8 +65,8 @@ texts-from [] i = rw (drop-nil, drop-nil) refl
 texts-from (x ∷ xs) zero = refl
 texts-from (x ∷ xs) (suc i) = rw (← length-textBytes (x .string), drop-append-add) (texts-from xs i)
 
-pub text-taken : (b : List ℕ) (at : ℕ) (s : List ℕ) → TextAt b at s → take (length s) (drop at b) ≡ s
-text-taken b at s t = rw (t .stands) (take-at s (0 ∷ t .rest) (length s) refl)
+pub text-taken : (b : List ℕ) (at : ℕ) (s : List ℕ) → TextAt b at s → take (length s + 1) (drop at b) ≡ s ++ (0 ∷ [])
+text-taken b at s t = rw (t .stands, ← append-assoc s (0 ∷ []) (t .rest)) (take-at (s ++ (0 ∷ [])) (t .rest) (length s + 1) (length-append s (0 ∷ [])))
 
 text-front : (b : List ℕ) (at : ℕ) (s rest : List ℕ) → drop at b ≡ textBytes s ++ rest → (length s ≡ 0 → ⊥) → TextAt b at s
 text-front b at s rest e n = record { rest = rest; stands = e ∙ rw (text-some s n, append-assoc) refl }
@@ -152,11 +154,6 @@ module _ (c : Contents) (small : Small c) where
     name = structure-word c 16 (omega arith) (omega (arith, block-low));
   }
 
-no-zeros : (n k : ℕ) → getD (zeros n) k 0 ≡ 0
-no-zeros zero k = refl
-no-zeros (suc n) zero = refl
-no-zeros (suc n) (suc k) = no-zeros n k
-
 -- the structure is 22 zero words in which the fields are set
 fields-set : (s : Structure) → structureWords s ≡ set (set (set (set (set (set (set (set (set (zeros 22) 0 (s .flags)) 1 (s .lower)) 2 (s .upper)) 4 (s .line)) 5 (s .count)) 6 (s .modules)) 11 (s .extent)) 12 (s .map)) 16 (s .name)
 unfolding structureWords
@@ -174,7 +171,7 @@ no-field s k h =
     let n6 : k ≢ 11 = λ q. h 6 (omega arith) (omega arith) in
     let n7 : k ≢ 12 = λ q. h 7 (omega arith) (omega arith) in
     let n8 : k ≢ 16 = λ q. h 8 (omega arith) (omega arith) in
-    rw (fields-set, getD-set-other {A = ℕ} _ 16 k _ 0 n8, getD-set-other {A = ℕ} _ 12 k _ 0 n7, getD-set-other {A = ℕ} _ 11 k _ 0 n6, getD-set-other {A = ℕ} _ 6 k _ 0 n5, getD-set-other {A = ℕ} _ 5 k _ 0 n4, getD-set-other {A = ℕ} _ 4 k _ 0 n3, getD-set-other {A = ℕ} _ 2 k _ 0 n2, getD-set-other {A = ℕ} _ 1 k _ 0 n1, getD-set-other {A = ℕ} _ 0 k _ 0 n0) (no-zeros 22 k)
+    rw (fields-set, getD-set-other {A = ℕ} _ 16 k _ 0 n8, getD-set-other {A = ℕ} _ 12 k _ 0 n7, getD-set-other {A = ℕ} _ 11 k _ 0 n6, getD-set-other {A = ℕ} _ 6 k _ 0 n5, getD-set-other {A = ℕ} _ 5 k _ 0 n4, getD-set-other {A = ℕ} _ 4 k _ 0 n3, getD-set-other {A = ℕ} _ 2 k _ 0 n2, getD-set-other {A = ℕ} _ 1 k _ 0 n1, getD-set-other {A = ℕ} _ 0 k _ 0 n0) (replicate-at 22 k 0)
 
 pub word-zero : (c : Contents) (k : ℕ) → k < 22 → ((i : ℕ) → i < length fieldsAt → getD fieldsAt i 0 ≡ 4 * k → ⊥) → numberAt 4 (blockOf c) (4 * k) ≡ 0
 word-zero c k l h =
@@ -217,7 +214,7 @@ module _ (c : Contents) (i : ℕ) (l : i < length (c .modules)) where
       block-word c (22 + (4 * i + j)) (omega (arith, length-wordsOf c)) (rw e h) ∙ e
 
 -- a text and those before it
-texts-room : (xs : List Loaded) (i : ℕ) → i < length xs → textsSize (take i (map lengthOf xs)) + textSize (length (getD xs i noLoaded .string)) ≤ textsSize (map lengthOf xs)
+pub texts-room : (xs : List Loaded) (i : ℕ) → i < length xs → textsSize (take i (map lengthOf xs)) + textSize (length (getD xs i noLoaded .string)) ≤ textsSize (map lengthOf xs)
 unfolding textsSize
 texts-room [] i l = absurd (omega arith)
 texts-room (x ∷ xs) zero l = omega arith

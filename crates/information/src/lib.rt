@@ -6,17 +6,17 @@ pub mod write;
 pub struct Structure {
     // which fields are given
     pub flags: u32,
-    // the sizes of lower and of upper memory in KiB
+    // mem_lower, mem_upper: the sizes of lower and of upper memory in KiB
     pub lower: u32,
     pub upper: u32,
-    // the address of the command line
+    // cmdline: the address of the command line
     pub line: u32,
-    // how many modules there are, and the address of their entries
+    // mods_count, mods_addr: how many modules there are, and the address of their entries
     pub count: u32,
     pub modules: u32,
-    // the length of the memory map in bytes, and its address
+    // mmap_length, mmap_addr: the length of the memory map in bytes, and its address
     pub extent: u32,
     pub map: u32,
-    // the address of the loader's name
+    // boot_loader_name: the address of the loader's name
     pub name: u32,
 }

@@ -1,6 +1,8 @@
 -- What proves that an answer is the first of a chain of checks: `search chain depth 20`.
 --     chain                          the rule set
---     firstOf-append, passes-append  a chain goes on where its first part ends
+--     none, here, on                 no check is left, the first applies, it does not
+--     or-left to not-to-false        a test of tests is true, or is not
+--     passes-append                  no check of two chains applies where none of either does
 --     passes-on                      a chain of which no check applies gives what stands behind it
 -- Assumes nothing.
 use mathlib.Core.Path.{_≡_, refl, sym}
@@ -11,12 +13,6 @@ use Rattle.laws.specs.Checks.{Check, firstOf, passes}
 use Rattle.laws.specs.TestLaws as tests
 
 module _ {A : Type 0} where
-  -- a chain goes on where its first part ends
-  pub firstOf-append : (ks ls : List (Check A)) (z : A) → firstOf (ks ++ ls) z ≡ firstOf ks (firstOf ls z)
-  unfolding firstOf
-  firstOf-append [] ls z = refl
-  firstOf-append (k ∷ ks) ls z = rw (firstOf-append ks ls z) refl
-
   -- no check of two chains applies where none of either does
   pub passes-append : (ks ls : List (Check A)) → passes (ks ++ ls) ≡ passes ks && passes ls
   unfolding passes
@@ -59,12 +55,12 @@ or-none a b e f = rw e f
 pub and-both : (a b : Bool) → a ≡ true → b ≡ true → (a && b) ≡ true
 and-both a b e f = rw e f
 
-pub and-left : (a b : Bool) → a ≡ false → (a && b) ≡ false
-and-left a b e = rw e refl
+pub and-fails-left : (a b : Bool) → a ≡ false → (a && b) ≡ false
+and-fails-left a b e = rw e refl
 
-pub and-right : (a b : Bool) → b ≡ false → (a && b) ≡ false
-and-right true b e = e
-and-right false b e = refl
+pub and-fails-right : (a b : Bool) → b ≡ false → (a && b) ≡ false
+and-fails-right true b e = e
+and-fails-right false b e = refl
 
 pub not-to-true : (a : Bool) → a ≡ false → not a ≡ true
 not-to-true a e = rw e refl
@@ -72,4 +68,4 @@ not-to-true a e = rw e refl
 pub not-to-false : (a : Bool) → a ≡ true → not a ≡ false
 not-to-false a e = rw e refl
 
-pub ruleset chain = (none, here, on, or-left, or-right, or-none, and-both, and-left, and-right, not-to-true, not-to-false, lt-ltb, le-ltb, le-leb, lt-leb, eq-eqb, ne-eqb)
+pub ruleset chain = (none, here, on, or-left, or-right, or-none, and-both, and-fails-left, and-fails-right, not-to-true, not-to-false, lt-ltb, le-ltb, le-leb, lt-leb, eq-eqb, ne-eqb)

@@ -1,9 +1,12 @@
--- Laws of tests over a range of numbers.
+-- Laws of tests, and of tests over a range of numbers.
+--     true-or-false, or-cases, lt-or-le       what is decided
+--     or-none-left, or-none-right             neither of two tests passes
+--     and-left, and-right                     both of two tests pass
 --     any-here, any-at, any-none, none-any    some number passes, or none does
 --     any-more, any-same                      one number more; tests that agree
 --     all-intro, all-elim, all-not            each number passes, or one does not
 --     all-zero, all-more                      no number, and one number more
---     run-is, run-to, run-says                where a run ends
+--     run-is, run-says                        where a run ends
 -- Assumes nothing.
 use Prim.Native.Nat.{ℕ, zero, suc, _+_, _-_, _≤_, _<_}
 use mathlib.Core.Path.{_≡_, refl, sym, ap, _∙_}
@@ -122,12 +125,6 @@ unfolding run
 run-is f zero a c l p q = omega arith
 run-is f (suc k) a zero l p q = let e : f a ≡ false = rw add-zero at (q (omega arith)) in rw e
 run-is f (suc k) a (suc c) l p q = rw (p a (omega arith) (omega arith)) (ap suc (run-is f k (suc a) c (omega arith) (λ y u v. p y (omega arith) (omega arith)) (λ u. let e : suc a + c ≡ a + suc c = omega arith in rw e (q (omega arith)))))
-
--- the same by the number at which the run ends
-pub run-to : (f : ℕ → Bool) (a x k : ℕ) → a ≤ x → x ≤ k → ((y : ℕ) → a ≤ y → y < x → f y ≡ true) → (x < k → f x ≡ false) → x - a ≡ run f a (k - a)
-run-to f a x k l m p q =
-    sym
-    (run-is f (k - a) a (x - a) (omega arith) (λ y u v. p y u (omega arith)) (λ u. let e : a + (x - a) ≡ x = omega arith in rw e (q (omega arith))))
 
 -- what the length of a run says: its numbers pass, and the next, if there is one, does not
 pub record Run (f : ℕ → Bool) (a k n : ℕ) : Type 0 where

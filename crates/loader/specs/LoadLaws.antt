@@ -31,14 +31,14 @@ use Rattle.board.specs.OpenLaws.{open-is}
 use Rattle.placement.specs.declared.Item.{Item}
 use Rattle.placement.specs.declared.Spans.{Spans}
 use Rattle.placement.specs.Free.{maxSpans, spanAt}
-use Rattle.placement.specs.FreeLaws.{Holds}
+use Rattle.address.specs.InsideLaws.{Holds}
 use Rattle.placement.specs.Order.{itemAt}
-use Rattle.placement.specs.Demand.{InOrder, Stands}
+use Rattle.placement.specs.Placing.{InOrder, Stands}
 use Rattle.decision.specs.Lent.{Lent, layoutIn, imageIn, kernelIn, boardIn, blockIn}
 use Rattle.decision.specs.Gather.{extentNo, extentsOf, itemsOf, moduleSpans}
 use Rattle.decision.specs.Decided.{extentOpen, kernelOpen, kernelChecks, roomChecks, placedBy, planOf}
-use Rattle.decision.specs.Decision.{checks, answerOf, placedIn, planIn}
-use Rattle.decision.specs.DecisionLaws.{lentChecks, checks-split, lent-refuses, Passed, passed, prepared}
+use Rattle.decision.specs.Decision.{lentChecks, checks, answerOf, placedIn, planIn}
+use Rattle.decision.specs.DecisionLaws.{lent-refuses, Passed, passed, prepared}
 use Rattle.decision.specs.PlacedLaws.{item-at, item-some, item-module, item-block, in-order}
 use Rattle.decision.specs.StageLaws.{kernel-refuses, kernel-passed, all-placed}
 
@@ -49,9 +49,9 @@ pub record Loads (x : Lent) : Type 0 where
   pub placed : layoutIn x .count + 1 ≤ placedIn x .done
 
 pub loads : (x : Lent) → isLoad (answerOf x) ≡ true → Loads x
+unfolding checks
 loads x h =
-    let e = checks-split x in
-    let a = or-else-load _ _ (ap isLoad (sym (chain-append (lentChecks x) _ (lent-refuses x))) ∙ (rw e at h)) in
+    let a = or-else-load _ _ (ap isLoad (sym (chain-append (lentChecks x) _ (lent-refuses x))) ∙ h) in
     let b = or-else-load _ _ (ap isLoad (sym (chain-append (kernelChecks (boardIn x) (kernelIn x)) _ (kernel-refuses (boardIn x) (kernelIn x)))) ∙ a .1) in
     record { passed = passed x (a .0); opened = kernel-passed (boardIn x) (kernelIn x) (b .0); placed = all-placed _ _ (b .1) }
 

@@ -1,6 +1,6 @@
 -- The window after a load.                                                            rule: WRITING
---     segmentWrite    a segment: its load bytes, then zeros over its bss
---     moduleWrite     a module's data
+--     segmentWrite, segmentWrites    a segment: its load bytes, then zeros over its bss; all of them
+--     moduleWrite, moduleWrites      a module's data; that of all modules
 --     contentsFor, contentsIn, blockWrite    the information block
 --     writesOf        all writes of a load
 --     memoryAfter     the window after a load, and after a refusal
@@ -51,12 +51,15 @@ contentsIn x = contentsFor (x .submission) (x .operator) (x .map) (layoutIn x) (
 unfoldable pub blockWrite : Lent → Write
 blockWrite x = record { at = planIn x .block .start .0 - x .first; bytes = blockOf (contentsIn x) }
 
+unfoldable pub segmentWrites : Lent → List Write
+segmentWrites x = listed (segmentWrite (x .first) (imageIn x) (planIn x .kernel)) (planIn x .kernel .count)
+
+unfoldable pub moduleWrites : Lent → List Write
+moduleWrites x = listed (moduleWrite (x .first) (x .submission) (layoutIn x) (planIn x .modules)) (layoutIn x .count)
+
 -- the kernel's segments, the modules, and the information block
 unfoldable pub writesOf : Lent → List Write
-writesOf x =
-    listed (segmentWrite (x .first) (imageIn x) (planIn x .kernel)) (planIn x .kernel .count)
-    ++ listed (moduleWrite (x .first) (x .submission) (layoutIn x) (planIn x .modules)) (layoutIn x .count)
-    ++ (blockWrite x ∷ [])
+writesOf x = segmentWrites x ++ moduleWrites x ++ (blockWrite x ∷ [])
 
 -- a load makes its writes, and a refusal none
 unfoldable pub memoryAfter : Lent → List ℕ → List ℕ

@@ -33,7 +33,7 @@ use Rattle.decision.specs.declared.Decision.{Decision}
 use Rattle.decision.specs.Decided.{planOf, decidedBy}
 use Rattle.decision.specs.Decision.{answerOf, planIn, decisionOf}
 use Rattle.decision.specs.DecisionLaws.{prepared}
-use Rattle.loader.specs.Memory.{segmentWrite, moduleWrite, contentsFor, contentsIn, blockWrite, writesOf, memoryAfter, Loaded}
+use Rattle.loader.specs.Memory.{segmentWrite, moduleWrite, contentsFor, contentsIn, blockWrite, segmentWrites, moduleWrites, writesOf, memoryAfter, Loaded}
 use Rattle.loader.specs.LoadLaws.{Loads, spanIn, countIn, span-inside, module-span, block-span, block-length}
 
 module _ (x : Lent) (h : Loads x) where
@@ -91,9 +91,9 @@ module _ (x : Lent) (h : Loads x) (p : Plan) (l : Layout) (pe : p ≡ planIn x) 
       → v ≡ written u (listed (moduleWrite (x .first) (x .submission) l (p .modules)) (l .count))
       → z ≡ patched v (p .block .start .0 - x .first) (blockOf (contentsFor (x .submission) (x .operator) (x .map) l (p .modules) (p .block .start .0)))
       → z ≡ written w (writesOf x)
-  unfolding writesOf blockWrite contentsIn written
+  unfolding writesOf segmentWrites moduleWrites blockWrite contentsIn written
   all-written w u v z image ie a b c =
-      c ∙ rw (b, a, ie, pe, le, written-append w (listed (segmentWrite (x .first) (imageIn x) (planIn x .kernel)) (planIn x .kernel .count) ++ listed (moduleWrite (x .first) (x .submission) (layoutIn x) (planIn x .modules)) (layoutIn x .count)) (blockWrite x ∷ []), written-append w (listed (segmentWrite (x .first) (imageIn x) (planIn x .kernel)) (planIn x .kernel .count)) (listed (moduleWrite (x .first) (x .submission) (layoutIn x) (planIn x .modules)) (layoutIn x .count))) refl
+      c ∙ rw (b, a, ie, pe, le, written-append w (segmentWrites x ++ moduleWrites x) (blockWrite x ∷ []), written-append w (segmentWrites x) (moduleWrites x)) refl
 
 -- the decision as it is handed over
 module _ (x : Lent) (d : Decision) (e : d ≡ decisionOf x) where

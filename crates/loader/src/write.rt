@@ -89,7 +89,7 @@ fn write_information<'a>(
 }
 
 // Writes the kernel's segments: their load bytes, and zeros over the bss.
-pub fn write_kernel(window: &mut [u8], base: PhysAddr, image: &[u8], kernel: Kernel)
+fn write_kernel(window: &mut [u8], base: PhysAddr, image: &[u8], kernel: Kernel)
     requires { ⌜ kernel .count ≤ segmentLimit ⌝ }
     ensures { λ _. ⌜ now (window .exit) ≡ written (now (window .entry)) (listed (segmentWrite (base .0) (now (image .entry)) kernel) (kernel .count)) ⌝ }
 {
@@ -131,7 +131,7 @@ fn write_filled(window: &mut [u8], at: usize, bytes: &[u8], count: usize)
 }
 
 // Writes the modules' data.
-pub fn write_modules(
+fn write_modules(
     window: &mut [u8],
     base: PhysAddr,
     submission: &[u8],

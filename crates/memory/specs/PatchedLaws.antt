@@ -6,6 +6,7 @@
 --     patched-append                            two writes, one behind the other, are one
 --     patched-swap                              writes that share no byte may change places
 --     take-patched, drop-patched, drop-inside   a part of a patched buffer is that part, patched
+--     part-inside                               a part inside the write is the same part of its bytes
 --     getD-before, getD-inside, getD-behind     which byte stands where
 -- Assumes nothing.
 use mathlib.Core.Path.{_≡_, refl, ap, sym, _∙_}
@@ -13,7 +14,7 @@ use mathlib.Core.List.{List, [], _∷_, _++_}
 use Prim.Native.Nat.{ℕ, zero, suc, _+_, _-_, _≤_, _<_, min}
 use native.Mathlib.Nat.{suc-add, add-suc, zero-add}
 use native.Mathlib.Omega.{arith}
-use lib.ListN.{length, getD, set, take, drop}
+use lib.ListN.{length, getD, set, take, drop, length-take, length-drop}
 use lib.Seq.{take-nil, drop-nil}
 use Rattle.memory.specs.Patched.{patched}
 
@@ -63,6 +64,13 @@ unfolding patched
 patched-whole [] s h = refl
 patched-whole (x ∷ d) [] h = absurd (omega arith)
 patched-whole (x ∷ d) (y ∷ s) h = ap (λ (l : List ℕ). y ∷ l) (patched-whole d s (omega arith))
+
+-- n bytes from a place inside the write on
+pub part-inside : (n k : ℕ) (d : List ℕ) (at : ℕ) (s : List ℕ) → k + n ≤ length s → at + length s ≤ length d → take n (drop (at + k) (patched d at s)) ≡ take n (drop k s)
+part-inside n k d at s h m =
+    let l : length (take n (drop (at + k) d)) ≡ n = simp (length-take, length-drop) (omega arith) in
+    rw (drop-inside k d at s, take-patched n (drop (at + k) d) zero (drop k s))
+    (patched-whole (take n (drop (at + k) d)) (drop k s) (rw l (simp length-drop (omega arith))) ∙ ap (λ (i : ℕ). take i (drop k s)) l)
 
 -- a write keeps only what has room
 pub patched-cut : (d : List ℕ) (at : ℕ) (s : List ℕ) (n : ℕ) → min (length s) (length d - at) ≤ n → patched d at (take n s) ≡ patched d at s

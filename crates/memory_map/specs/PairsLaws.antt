@@ -4,6 +4,7 @@
 --     whole-more, whole-count, whole-next, whole-all      whole pairs, one more, and how many there are
 --     broken-bad, empty-bad, long-bad, many-bad           what refuses a map
 --     map-good, good-map, good-some, good-fills           a map is accepted exactly where it keeps all its rules
+--     map-refuses                                         the check on it refuses
 --     parsed-bad, parsed-good, load-good                  what reading a map answers
 --     pair-listed, pair-past, length-pairs                which pair stands at which index
 --     pair-fits, pairs-fit                                the ranges of a pair's fields
@@ -11,7 +12,7 @@
 -- Assumes nothing.
 use mathlib.Core.Path.{_≡_, refl, ap, sym, _∙_}
 use mathlib.Core.Bool.{true, false, _||_, false≢true}
-use mathlib.Core.List.{List}
+use mathlib.Core.List.{List, []}
 use mathlib.Core.Logic.{⊎-elim}
 use Prim.Native.Nat.{ℕ, zero, suc, _+_, _-_, _^_, _≤_, _<_}
 use native.Mathlib.Nat.{zero-add, eq-or-lt-of-le, le-of-suc-le-suc}
@@ -26,7 +27,7 @@ use Rattle.laws.specs.TableLaws.{length-table, table-at, table-past, replicate-
 use Rattle.laws.specs.Checks.{firstOf}
 use Rattle.laws.specs.CheckLaws.{chain}
 use Rattle.answer.specs.declared.Answer.the-variants.{Load, BadMemoryMap}
-use Rattle.answer.specs.Answer.{numberOf}
+use Rattle.answer.specs.Order.{refuses, check-passed}
 use Rattle.number.specs.NumberLaws.{Bytes, bytes-drop, number-bound}
 use Rattle.memory_map.specs.declared.Pair.{Pair}
 use Rattle.memory_map.specs.Pairs.{maxBytes, minSize, baseAt, lengthAt, kindAt, sizeAt, nextAt, pairAt, begins, pairCount, small, past, badMap, mapChecks, pairOf, firstPairs, mapOf, noMap, parsed}
@@ -61,10 +62,6 @@ module _ (m : List ℕ) where
   pub begins-here : (i : ℕ) → pairAt m i < length m → begins m i ≡ true
   unfolding begins
   begins-here i l = lt-ltb _ _ l
-
-  pub begins-not : (i : ℕ) → length m ≤ pairAt m i → begins m i ≡ false
-  unfolding begins
-  begins-not i l = le-ltb _ _ l
 
   begins-is : (i : ℕ) → begins m i ≡ true → pairAt m i < length m
   unfolding begins
@@ -183,14 +180,14 @@ module _ (m : List ℕ) where
   unfolding parsed mapChecks firstOf
   parsed-good t = rw t refl
 
+  pub map-refuses : refuses (mapChecks m) ≡ true
+  unfolding refuses mapChecks
+  map-refuses = refl
+
   -- a map that is not refused by the order of checks is good
   pub load-good : firstOf (mapChecks m) Load ≡ Load → badMap m ≡ false
-  unfolding mapChecks firstOf
-  load-good e =
-      ⊎-elim
-      (λ (t : badMap m ≡ true). let z : _≡_ {A = ℕ} 5 0 = ap numberOf (rw t at e) in absurd (omega arith))
-      (λ t. t)
-      (true-or-false (badMap m))
+  unfolding mapChecks
+  load-good e = check-passed (badMap m) BadMemoryMap [] refl e .0
 
   -- an accepted map has a pair, and its pairs fill it
   pub good-some : badMap m ≡ false → 1 ≤ pairCount m

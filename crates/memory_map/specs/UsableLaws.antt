@@ -1,7 +1,6 @@
 -- Usable addresses in propositions.
 --     covers-is     a pair covers the addresses from its base up to base + length, which never wraps: covers-exact
 --     usable-is     some pair of type 1 covers the address below 2^32, and no pair of another type does
---     usable-below  a usable address is below 2^32
 -- Assumes nothing.
 use mathlib.Core.Path.{_≡_, refl, sym, _∙_}
 use mathlib.Core.Bool.{Bool, true, false, not, _&&_, false≢true}
@@ -12,7 +11,7 @@ use lib.Dec.{ltb, eqb}
 use Rattle.laws.specs.Tests.{any}
 use Rattle.laws.specs.TestLaws.{true-or-false, and-left, and-right, any-at, any-here, any-none, none-any}
 use Rattle.address.specs.Address.{inside}
-use Rattle.edge.specs.InsideLaws.{inside-is}
+use Rattle.address.specs.InsideLaws.{inside-is}
 use Rattle.memory_map.specs.declared.Pair.{Pair}
 use Rattle.memory_map.specs.declared.MemMap.{MemMap}
 use Rattle.memory_map.specs.Usable.{ram, limit, pairNo, covers, usableBy, barredBy, usableAt}
@@ -72,6 +71,3 @@ module _ (m : MemMap) (a : ℕ) where
             let o : B ≡ false = any-none (barredBy m a) (m .count) (λ i l. ⊎-elim (λ t. let k = by-barred i .0 t in absurd (h .none i l (k .0) (k .1))) (λ t. t) (true-or-false (barredBy m a i))) in
             rw (p, q, o),
       )
-
-  pub usable-below : usableAt m a ≡ true → a < limit
-  usable-below e = usable-is .0 e .below

@@ -39,11 +39,8 @@ pub fn parse(m: &[u8]) -> Parsed
     if MAX_BYTES < m.len() {
         return refused();
     }
-    let mut pairs = [Pair {
-        base: 0,
-        length: 0,
-        kind: 0,
-    }; PAIRS];
+    let empty = no_map();
+    let mut pairs = empty.pairs;
     let mut count = 0;
     let mut at = 0;
     while at < m.len() {
@@ -98,13 +95,21 @@ fn refused() -> Parsed
 {
     Parsed {
         answer: Answer::BadMemoryMap,
-        map: MemMap {
-            pairs: [Pair {
-                base: 0,
-                length: 0,
-                kind: 0,
-            }; PAIRS],
-            count: 0,
-        },
+        map: no_map(),
+    }
+}
+
+// A map of no pairs.
+fn no_map() -> MemMap
+    ensures { λ r. ⌜ r ≡ noMap ⌝ }
+{
+    let none = Pair {
+        base: 0,
+        length: 0,
+        kind: 0,
+    };
+    MemMap {
+        pairs: [none; PAIRS],
+        count: 0,
     }
 }

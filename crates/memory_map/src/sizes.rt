@@ -15,7 +15,7 @@ const KIB: u64 = 1024;
 const LOWER_MOST: u64 = 640;
 
 // The number of consecutive usable addresses from start on.
-pub fn usable_run(map: MemMap, start: PhysAddr) -> u64
+fn usable_run(map: MemMap, start: PhysAddr) -> u64
     requires { ⌜ map .count ≤ maxPairs ⌝ }
     ensures { λ r. ⌜ r ≡ run (usableAt map) (start .0) (limit - start .0) ⌝ }
 {

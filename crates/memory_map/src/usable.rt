@@ -15,7 +15,7 @@ pub const RAM: u32 = 1;
 pub const LIMIT: u64 = 0x100000000;
 
 // Whether the pair covers the address.
-pub fn pair_covers(pair: Pair, a: PhysAddr) -> bool
+fn pair_covers(pair: Pair, a: PhysAddr) -> bool
     ensures { λ r. ⌜ r ≡ covers pair (a .0) ⌝ }
 {
     if a.0 < pair.base {
@@ -49,7 +49,7 @@ pub fn usable_at(map: MemMap, a: PhysAddr) -> bool
 }
 
 // The nearest edge of a pair past x and before e, else e.
-pub fn pair_edge(pair: Pair, x: PhysAddr, e: PhysAddr) -> PhysAddr
+fn pair_edge(pair: Pair, x: PhysAddr, e: PhysAddr) -> PhysAddr
     ensures { λ r. ⌜ r .0 ≡ spanEdge (pair .base) (pair .base + pair .length) (x .0) (e .0) ⌝ }
 {
     let f = edge::nearer(x, e, PhysAddr(pair.base));

@@ -19,12 +19,14 @@ pub fn read_le(s: &[u8], at: usize, width: usize) -> u64
     value
 }
 
+// A byte as a number.
 fn wide(x: u8) -> u64
     ensures { λ r. ⌜ (r ≡ x) × (r < 256) ⌝ }
 {
     x as u64
 }
 
+// The number of two bytes at the offset `at`.
 pub fn read_u16(s: &[u8], at: usize) -> u16
     requires { ⌜ at + 2 ≤ length (now s) ⌝ }
     ensures { λ r. ⌜ r ≡ numberAt 2 (now (s .entry)) at ⌝ }
@@ -32,6 +34,7 @@ pub fn read_u16(s: &[u8], at: usize) -> u16
     read_le(s, at, 2) as u16
 }
 
+// The number of four bytes at the offset `at`.
 pub fn read_u32(s: &[u8], at: usize) -> u32
     requires { ⌜ at + 4 ≤ length (now s) ⌝ }
     ensures { λ r. ⌜ r ≡ numberAt 4 (now (s .entry)) at ⌝ }
@@ -39,6 +42,7 @@ pub fn read_u32(s: &[u8], at: usize) -> u32
     read_le(s, at, 4) as u32
 }
 
+// The number of eight bytes at the offset `at`.
 pub fn read_u64(s: &[u8], at: usize) -> u64
     requires { ⌜ at + 8 ≤ length (now s) ⌝ }
     ensures { λ r. ⌜ r ≡ numberAt 8 (now (s .entry)) at ⌝ }

@@ -1,5 +1,4 @@
 -- Free addresses in propositions.
---     Holds        the span holds the address
 --     taken-is     some span taken holds the address
 --     Free, free-is    open, and no span taken holds the address
 -- Assumes nothing.
@@ -11,12 +10,9 @@ use borrow.Author.Tests.{not-true}
 use Rattle.laws.specs.TestLaws.{true-or-false, and-left, and-right, any-none, none-any}
 use Rattle.address.specs.declared.Span.{Span}
 use Rattle.address.specs.Address.{inside}
-use Rattle.edge.specs.InsideLaws.{inside-is}
+use Rattle.address.specs.InsideLaws.{Holds, inside-is}
 use Rattle.placement.specs.declared.Spans.{Spans}
 use Rattle.placement.specs.Free.{spanAt, takenBy, takenAt, freeAt}
-
-abbrev pub Holds : Span → ℕ → Type 0
-Holds s a = (s .start .0 ≤ a) × (a < s .end .0)
 
 pub record Free (o : ℕ → Bool) (t : Spans) (a : ℕ) : Type 0 where
   pub opened : o a ≡ true

@@ -1,5 +1,5 @@
--- The definitions that the contracts of `placement` cite, and their laws. `Demand` is where to start: what placing promises.
-pub mod Demand
+-- The definitions that the contracts of `placement` cite, and their laws. `Placing` is where to start: what placing promises.
+pub mod Placing
 pub mod Free
 pub mod FreeLaws
 pub mod FreeEdge
@@ -8,9 +8,7 @@ pub mod Lowest
 pub mod LowestLaws
 pub mod Order
 pub mod OrderLaws
-pub mod DemandLaws
+pub mod PlacingLaws
 pub mod Ready
 pub mod Walk
 pub mod Steps
-pub mod Model
-pub mod Cases

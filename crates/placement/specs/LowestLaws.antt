@@ -23,7 +23,7 @@ use Rattle.placement.specs.declared.Item.{Item}
 use Rattle.placement.specs.declared.Place.the-variants.{At, NoRoom}
 use Rattle.placement.specs.Free.{freeAt}
 use Rattle.placement.specs.FreeLaws.{Free, free-is}
-use Rattle.placement.specs.Demand.{Suits}
+use Rattle.placement.specs.Placing.{Suits}
 use Rattle.placement.specs.Lowest.{fits, lowest, placeOf, lowestPlace}
 
 place-at : (f : Found) (a : PhysAddr) → placeOf f ≡ At a → f ≡ at (a .0)

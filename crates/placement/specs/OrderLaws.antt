@@ -18,9 +18,9 @@ use Rattle.placement.specs.declared.Item.{Item}
 use Rattle.placement.specs.declared.Items.{Items}
 use Rattle.placement.specs.declared.Place.the-variants.{At, NoRoom}
 use Rattle.placement.specs.Free.{spanAt}
-use Rattle.placement.specs.FreeLaws.{Holds}
+use Rattle.address.specs.InsideLaws.{Holds}
 use Rattle.placement.specs.Lowest.{lowestPlace}
-use Rattle.placement.specs.Demand.{Suits}
+use Rattle.placement.specs.Placing.{Suits}
 use Rattle.placement.specs.Order.{itemAt, spanOf, withSpan, placedFrom}
 
 module _ (t : Spans) (s : Span) where

@@ -10,7 +10,7 @@ ghost use Rattle.placement.specs.Free.{maxSpans, takenAt, freeAt};
 ghost use Rattle.placement.specs.FreeEdge.{takenEdge, freeEdge};
 
 // Whether the address lies in a span taken.
-pub fn taken_at(taken: Spans, a: PhysAddr) -> bool
+fn taken_at(taken: Spans, a: PhysAddr) -> bool
     requires { ⌜ taken .count ≤ maxSpans ⌝ }
     ensures { λ r. ⌜ r ≡ takenAt taken (a .0) ⌝ }
 {
@@ -37,7 +37,7 @@ pub fn free_at(board: Board, taken: Spans, a: PhysAddr) -> bool
 }
 
 // The nearest edge of a span taken past x and before e, else e.
-pub fn taken_edge(taken: Spans, x: PhysAddr, e: PhysAddr) -> PhysAddr
+fn taken_edge(taken: Spans, x: PhysAddr, e: PhysAddr) -> PhysAddr
     requires { ⌜ taken .count ≤ maxSpans ⌝ }
     ensures { λ r. ⌜ r .0 ≡ takenEdge taken (x .0) (e .0) ⌝ }
 {

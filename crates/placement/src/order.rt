@@ -15,7 +15,7 @@ ghost use Rattle.placement.specs.Order.{withSpan, placeItems};
 ghost use Rattle.placement.specs.Ready.{ReadyItems};
 
 // The spans with one more.
-pub fn with_span(spans: Spans, span: Span) -> Spans
+fn with_span(spans: Spans, span: Span) -> Spans
     requires { ⌜ spans .count < maxSpans ⌝ }
     ensures { λ r. ⌜ r ≡ withSpan spans span ⌝ }
 {

@@ -1,11 +1,11 @@
 -- What an accepted operator's line and the command line in force keep.
---     operator-refuses, operator-loads                     the answer is 0 only where no check applies
+--     operator-refuses                                     the check on it refuses
 --     operator-length, operator-text                       an accepted operator's line
 --     line-refused-submission, line-refused-operator, line-of-operator, line-of-submission, line-cases      which line is in force
 --     line-length, line-text, line-zero-free               the line in force, whatever was lent
 -- Assumes nothing.
 use mathlib.Core.Path.{_≡_, refl, ap, _∙_}
-use mathlib.Core.Bool.{Bool, true, false, not, _||_, and-false, true≢false}
+use mathlib.Core.Bool.{Bool, true, false, not, _||_, and-false}
 use mathlib.Core.Logic.{⊎-elim}
 use mathlib.Core.List.{List, [], _∷_}
 use Prim.Native.Nat.{ℕ, _≤_, _<_}
@@ -13,10 +13,9 @@ use native.Mathlib.Omega.{arith}
 use lib.Dec.{ltb}
 use lib.ListN.{length, getD}
 use borrow.Author.Tests.{ltb-false, not-true}
-use Rattle.answer.specs.Answer.{numberOf}
-use Rattle.answer.specs.declared.Answer.the-variants.{Load, BadOperatorLine}
+use Rattle.answer.specs.Order.{refuses}
 use Rattle.laws.specs.TestLaws.{true-or-false, or-none-left, or-none-right, and-left, lt-or-le}
-use Rattle.laws.specs.Checks.{_gives_, firstOf, passes}
+use Rattle.laws.specs.Checks.{passes}
 use Rattle.laws.specs.CheckLaws.{passes-append}
 use Rattle.submission.specs.Scan.{hasZero}
 use Rattle.submission.specs.ScanLaws.{no-zero}
@@ -26,19 +25,10 @@ use Rattle.submission.specs.Rules.{lineLimit, submissionChecks}
 use Rattle.submission.specs.RuleLaws.{Accepted, accepted, line-inside}
 use Rattle.submission.specs.CommandLine.{operatorChecks, lineInForce, commandLine}
 
-one-refuses : (a : Bool) → passes (a gives BadOperatorLine ∷ []) ≡ false → numberOf (firstOf (a gives BadOperatorLine ∷ []) Load) ≡ 0 → ⊥
-unfolding passes firstOf
-one-refuses true h e = omega arith
-one-refuses false h e = true≢false h
-
 module _ (line : List ℕ) where
-  -- a check that applies gives a number other than 0
-  pub operator-refuses : passes (operatorChecks line) ≡ false → numberOf (firstOf (operatorChecks line) Load) ≡ 0 → ⊥
-  unfolding operatorChecks
-  operator-refuses = one-refuses (ltb lineLimit (length line) || hasZero line)
-
-  pub operator-loads : firstOf (operatorChecks line) Load ≡ Load → passes (operatorChecks line) ≡ true
-  operator-loads h = ⊎-elim (λ t. t) (λ f. absurd (operator-refuses f (ap numberOf h))) (true-or-false (passes (operatorChecks line)))
+  pub operator-refuses : refuses (operatorChecks line) ≡ true
+  unfolding refuses operatorChecks
+  operator-refuses = refl
 
   neither : passes (operatorChecks line) ≡ true → ltb lineLimit (length line) || hasZero line ≡ false
   unfolding passes operatorChecks

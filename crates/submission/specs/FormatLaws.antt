@@ -1,8 +1,8 @@
 -- Where the parts of a submission lie, whatever its bytes are.
 --     line-behind-image, data-behind-line, string-behind-data, data-behind-string      one behind the other
 --     data-order                                                                       a later module lies further on
---     length-bytesOf                                                                   a part that lies inside is whole
---     layout-image, layout-line, layout-count                                          the fields of the layout
+--     length-bytesOf, bytesOf-at                                                       a part that lies inside is whole; its bytes
+--     layout-line, layout-count                                                        the fields of the layout
 --     length-modules, module-at, module-past                                           its table of modules
 -- Assumes nothing.
 use mathlib.Core.Path.{_≡_, refl, ap}
@@ -12,9 +12,10 @@ use Prim.Native.Nat.{ℕ, zero, suc, _+_, _≤_, _<_}
 use native.Mathlib.Nat.{eq-or-lt-of-le, le-of-suc-le-suc}
 use native.Mathlib.Numerals.{add-one}
 use native.Mathlib.Omega.{arith}
-use lib.ListN.{length, length-take, length-drop}
+use lib.ListN.{length, getD, length-take, length-drop}
+use lib.Seq.{getD-take, getD-drop}
 use Rattle.laws.specs.TableLaws.{length-table, table-at, table-past}
-use Rattle.submission.specs.Format.{moduleCount, imageLength, lineLength, dataLength, stringLength, imageStart, lineStart, dataStart, stringStart, imageOf, lineOf, moduleOf, moduleLimit, noModule, layoutOf, moduleNo, bytesOf}
+use Rattle.submission.specs.Format.{moduleCount, imageLength, lineLength, dataLength, stringLength, imageStart, lineStart, dataStart, stringStart, lineOf, moduleOf, moduleLimit, noModule, layoutOf, moduleNo, bytesOf}
 use Rattle.submission.specs.declared.Part.{Part}
 
 module _ (s : List ℕ) where
@@ -43,10 +44,6 @@ module _ (s : List ℕ) where
       (λ l. omega (arith, data-order i j (le-of-suc-le-suc l), rw add-one at (data-behind-string j)))
       (eq-or-lt-of-le h)
 
-  pub layout-image : layoutOf s .image ≡ imageOf s
-  unfolding layoutOf
-  layout-image = refl
-
   pub layout-line : layoutOf s .line ≡ lineOf s
   unfolding layoutOf
   layout-line = refl
@@ -57,6 +54,9 @@ module _ (s : List ℕ) where
 
   pub length-bytesOf : (p : Part) → p .at + p .len ≤ length s → length (bytesOf s p) ≡ p .len
   length-bytesOf p h = simp (length-take, length-drop) (omega arith)
+
+  pub bytesOf-at : (p : Part) (i : ℕ) → i < p .len → getD (bytesOf s p) i 0 ≡ getD s (p .at + i) 0
+  bytesOf-at p i h = rw (getD-take, getD-drop)
 
   -- the table has room for `moduleLimit` modules
   pub length-modules : moduleCount s ≤ moduleLimit → length (layoutOf s .modules) ≡ moduleLimit

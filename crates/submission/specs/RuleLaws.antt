@@ -1,37 +1,37 @@
 -- What an accepted submission keeps.
---     submission-refuses, submission-loads                       the answer is 0 only where no check applies
---     Accepted, accepted                                         every rule of an accepted submission, as facts
+--     submission-refuses                                         the checks on it refuse
+--     Accepted, accepted, rules-accept                           every rule of a submission, as facts: it is accepted exactly where they hold
 --     image-inside, line-inside, data-inside, string-inside      its parts lie inside it
 --     line-no-zero, string-no-zero                               no zero byte in its command line and strings
 --     image-bound, data-bound                                    lengths of 32 bits
---     parsed-answer, parsed-layout, parsed-none, parsed-count    what a parse gives
+--     parsed-layout, parsed-none, parsed-count                   what a parse gives
 -- Assumes nothing.
-use mathlib.Core.Path.{_≡_, refl, ap, _∙_}
-use mathlib.Core.Bool.{Bool, true, false, not, _&&_, false≢true, true≢false}
+use mathlib.Core.Path.{_≡_, refl, _∙_}
+use mathlib.Core.Bool.{Bool, true, false, not, _&&_, false≢true}
 use mathlib.Core.Logic.{⊎-elim}
-use mathlib.Core.List.{List, [], _∷_}
+use mathlib.Core.List.{List}
 use Prim.Native.Nat.{ℕ, _+_, _^_, _≤_, _<_}
 use native.Mathlib.Omega.{arith}
 use lib.Dec.{leb, eqb}
 use lib.ListN.{length, take, drop, getD}
-use lib.Seq.{getD-take, getD-drop}
-use borrow.Author.Tests.{leb-true, eqb-true, not-true, not-false}
-use Rattle.answer.specs.declared.Answer.the-variants.{Load, NotASubmission, BadSubmission}
-use Rattle.answer.specs.Answer.{numberOf}
+use borrow.Author.Tests.{leb-true, le-leb, eqb-true, eq-eqb, not-true, not-false}
+use Rattle.answer.specs.Order.{refuses}
 use Rattle.laws.specs.Tests.{allFrom}
-use Rattle.laws.specs.TestLaws.{true-or-false, and-left, and-right, all-elim}
-use Rattle.laws.specs.Checks.{_gives_, firstOf, passes}
+use Rattle.laws.specs.TestLaws.{true-or-false, and-left, and-right, all-intro, all-elim}
+use Rattle.laws.specs.Checks.{passes}
 use Rattle.number.specs.NumberLaws.{Bytes, bytes-drop, number-bound}
 use Rattle.submission.specs.Scan.{hasZero, sameBytes}
-use Rattle.submission.specs.ScanLaws.{no-zero}
+use Rattle.submission.specs.ScanLaws.{no-zero, same-is}
 use Rattle.submission.specs.Format.{mark, version, moduleCount, imageLength, lineLength, headerSize, entryAt, dataLength, stringLength, reserved, imageStart, lineStart, dataStart, stringStart, partsEnd, lineOf, moduleOf, moduleLimit, layoutOf, noLayout, bytesOf}
-use Rattle.submission.specs.FormatLaws.{data-behind-line, data-behind-string, data-order, length-bytesOf, layout-count}
+use Rattle.submission.specs.FormatLaws.{data-behind-line, data-behind-string, data-order, length-bytesOf, bytesOf-at, layout-count}
 use Rattle.submission.specs.Rules.{lineLimit, stringLimit, isSubmission, inLimits, entryHolds, stringHolds, rulesHold, submissionChecks, parsed}
 use Rattle.submission.specs.declared.Part.{Part}
 
 -- the rules of a submission, as facts
 pub record Accepted (s : List ℕ) : Type 0 where
   pub header : headerSize ≤ length s
+  pub marked : take 3 s ≡ mark
+  pub versioned : version s ≡ 1
   pub count : moduleCount s ≤ moduleLimit
   pub line : lineLength s ≤ lineLimit
   pub bytes : (i : ℕ) → i < moduleCount s → 1 ≤ dataLength s i
@@ -45,14 +45,7 @@ pub record Accepted (s : List ℕ) : Type 0 where
 part-no-zero : (s : List ℕ) (p : Part) → p .at + p .len ≤ length s → hasZero (bytesOf s p) ≡ false → (i : ℕ) → i < p .len → getD s (p .at + i) 0 ≡ 0 → ⊥
 part-no-zero s p h z i l e =
     let k : i < length (bytesOf s p) = rw (length-bytesOf s p h) l in
-    no-zero (bytesOf s p) z i k (getD-take (p .len) (drop (p .at) s) i 0 l ∙ getD-drop (p .at) s i 0 ∙ e)
-
-two-refuse : (a b : Bool)
-    → passes (not a gives NotASubmission ∷ not b gives BadSubmission ∷ []) ≡ false → numberOf (firstOf (not a gives NotASubmission ∷ not b gives BadSubmission ∷ []) Load) ≡ 0 → ⊥
-unfolding passes firstOf
-two-refuse true true h e = true≢false h
-two-refuse true false h e = omega arith
-two-refuse false b h e = omega arith
+    no-zero (bytesOf s p) z i k (bytesOf-at s p i l ∙ e)
 
 six : (a b c d e f : Bool) → a && b && c && d && e && f ≡ true → (a ≡ true) × (b ≡ true) × (c ≡ true) × (d ≡ true) × (e ≡ true) × (f ≡ true)
 six true true true true true true h = (refl, refl, refl, refl, refl, refl)
@@ -64,12 +57,21 @@ six true false c d e f h = absurd (false≢true h)
 six false b c d e f h = absurd (false≢true h)
 
 module _ (s : List ℕ) where
-  pub header-inside : isSubmission s ≡ true → headerSize ≤ length s
+  pub submission-refuses : refuses (submissionChecks s) ≡ true
+  unfolding refuses submissionChecks
+  submission-refuses = refl
+
+  header-facts : isSubmission s ≡ true → (headerSize ≤ length s) × (take 3 s ≡ mark) × (version s ≡ 1)
   unfolding isSubmission
-  header-inside h =
+  header-facts h =
       let a = leb headerSize (length s) in
       let b = sameBytes (take 3 s) mark in
-      leb-true headerSize (length s) (and-left a b (and-left (a && b) (eqb (version s) 1) h))
+      let c = eqb (version s) 1 in
+      let ab = and-left (a && b) c h in
+      (leb-true headerSize (length s) (and-left a b ab), same-is (take 3 s) mark .0 (and-right a b ab), eqb-true _ _ (and-right (a && b) c h))
+
+  pub header-inside : isSubmission s ≡ true → headerSize ≤ length s
+  header-inside h = header-facts h .0
 
   is-submission : passes (submissionChecks s) ≡ true → isSubmission s ≡ true
   unfolding passes submissionChecks
@@ -78,18 +80,6 @@ module _ (s : List ℕ) where
   holds-rules : passes (submissionChecks s) ≡ true → rulesHold s ≡ true
   unfolding passes submissionChecks
   holds-rules h = not-false _ (not-true _ (and-left (not (not (rulesHold s))) true (and-right (not (not (isSubmission s))) (not (not (rulesHold s)) && true) h)))
-
-  -- a check that applies gives a number other than 0
-  pub submission-refuses : passes (submissionChecks s) ≡ false → numberOf (firstOf (submissionChecks s) Load) ≡ 0 → ⊥
-  unfolding submissionChecks
-  submission-refuses = two-refuse (isSubmission s) (rulesHold s)
-
-  pub submission-loads : firstOf (submissionChecks s) Load ≡ Load → passes (submissionChecks s) ≡ true
-  submission-loads h = ⊎-elim (λ t. t) (λ f. absurd (submission-refuses f (ap numberOf h))) (true-or-false (passes (submissionChecks s)))
-
-  pub parsed-answer : parsed s .answer ≡ firstOf (submissionChecks s) Load
-  unfolding parsed
-  parsed-answer = refl
 
   pub parsed-layout : passes (submissionChecks s) ≡ true → parsed s .layout ≡ layoutOf s
   unfolding parsed
@@ -126,9 +116,12 @@ module _ (s : List ℕ) where
 
   pub accepted : passes (submissionChecks s) ≡ true → Accepted s
   accepted h =
+      let f = header-facts (is-submission h) in
       let r = rules-apart (holds-rules h) in
       record {
-        header = header-inside (is-submission h);
+        header = f .0;
+        marked = f .1;
+        versioned = f .2;
         count = leb-true _ _ (r .0);
         line = leb-true _ _ (r .1);
         bytes = λ i l. entry-facts (r .2) i l .0;
@@ -138,6 +131,24 @@ module _ (s : List ℕ) where
         line-text = not-true _ (r .4);
         string-text = string-facts (r .5);
       }
+
+  pub rules-accept : Accepted s → passes (submissionChecks s) ≡ true
+  unfolding passes submissionChecks isSubmission rulesHold inLimits stringHolds
+  rules-accept a =
+      let entry : (i : ℕ) → i < moduleCount s → entryHolds s i ≡ true = λ i m. rw (le-leb 1 (dataLength s i) (a .bytes i m), le-leb (stringLength s i) stringLimit (a .string i m), eq-eqb (reserved s i) 0 (a .zeros i m)) refl in
+      let text : (i : ℕ) → i < moduleCount s → stringHolds s i ≡ true = λ i m. rw (a .string-text i m) refl in
+      rw (
+        le-leb headerSize (length s) (a .header),
+        same-is (take 3 s) mark .1 (a .marked),
+        eq-eqb (version s) 1 (a .versioned),
+        le-leb (moduleCount s) moduleLimit (a .count),
+        le-leb (lineLength s) lineLimit (a .line),
+        all-intro (entryHolds s) 0 (moduleCount s) (λ i l m. entry i (omega arith)),
+        eq-eqb (partsEnd s) (length s) (a .end),
+        a .line-text,
+        all-intro (stringHolds s) 0 (moduleCount s) (λ i l m. text i (omega arith)),
+      )
+      refl
 
 -- the layout that a parse gives has room for its modules, refused or not
 pub parsed-count : (s : List ℕ) → parsed s .layout .count ≤ moduleLimit

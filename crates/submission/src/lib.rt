@@ -105,10 +105,10 @@ pub fn command_line<'a>(operator: &'a [u8], submission: &'a [u8]) -> &'a [u8]
 {
     let read = parse(submission);
     let verdict = read.answer;
-    if answer::number(verdict) != 0 {
+    if !answer::is_load(verdict) {
         return &submission[..0];
     }
-    if answer::number(check_operator(operator)) != 0 {
+    if !answer::is_load(check_operator(operator)) {
         return &operator[..0];
     }
     if 0 < operator.len() {

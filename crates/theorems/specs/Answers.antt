@@ -1,5 +1,7 @@
--- The first promise: each answer exactly on its condition.
+-- The first promise: each answer exactly on its condition; and of the second, what a load is calculated from.
 --     answered    for all that is lent
+--     searched    what its conditions say that are searches
+--     found       the header found and the load addresses, in every load
 -- Assumes nothing.
 use mathlib.Core.Path.{_≡_, refl, sym, ap, _∙_}
 use mathlib.Core.Bool.{Bool, true, false, cond, not, false≢true}
@@ -10,20 +12,35 @@ use native.Mathlib.Omega.{arith}
 use borrow.Author.Tests.{ne-eqb}
 use lib.Dec.{eqb}
 use Rattle.laws.specs.Checks.{Check, firstOf}
+use Rattle.laws.specs.TestLaws.{all-intro, all-elim}
+use Rattle.address.specs.InsideLaws.{Holds}
 use Rattle.answer.specs.Answer.{numberOf, itemOf, isLoad}
 use Rattle.answer.specs.Order.{appliesAt, First, numberedFrom, number-given, number-first, none-given, none-applies}
 use Rattle.answer.specs.declared.Answer.{Answer}
 use Rattle.answer.specs.declared.Answer.the-variants.{Load, NotASubmission, BadSubmission, BadOperatorLine, WindowPastTop, BadMemoryMap, NoHeader, UnknownRequest, NoAddressFields, HeaderCutOff, LoadBeforeImage, NothingToLoad, LoadPastImage, BssBelowLoadEnd, EntryOutsideLoad, KernelNotOpen, NoRoomForModule, NoRoomForInformation}
 use Rattle.submission.specs.Rules.{submissionChecks}
+use Rattle.submission.specs.RuleLaws.{accepted, rules-accept}
 use Rattle.submission.specs.CommandLine.{operatorChecks}
 use Rattle.board.specs.Window.{windowChecks}
+use Rattle.board.specs.declared.Board.{Board}
+use Rattle.board.specs.OpenLaws.{Open, open-is, all-open-is}
 use Rattle.memory_map.specs.Pairs.{mapChecks}
-use Rattle.image.specs.Judged.{headerChecks, loadChecks, imageChecks}
-use Rattle.decision.specs.Lent.{Lent}
-use Rattle.decision.specs.Decided.{kernelChecks, roomChecks, noPlan, decidedBy}
-use Rattle.decision.specs.Decision.{checks, answerOf, placedIn, decisionOf}
+use Rattle.memory_map.specs.PairsLaws.{good-map, map-good}
+use Rattle.image.specs.declared.header.Search.{Search}
+use Rattle.image.specs.declared.header.Search.the-variants.{At, Nothing}
+use Rattle.image.specs.declared.Kernel.{Kernel}
+use Rattle.image.specs.Header.{header}
+use Rattle.image.specs.HeaderLaws.{HeaderAt, header-lowest, header-none, none-header}
+use Rattle.image.specs.Judged.{noHeader, headerChecks, loadChecks, imageChecks}
+use Rattle.image.specs.JudgedLaws.{calculated}
+use Rattle.image.specs.JudgedLaws.{accepted as accepted-image}
+use Rattle.decision.specs.Lent.{Lent, imageIn, kernelIn, boardIn}
+use Rattle.decision.specs.Gather.{extentNo}
+use Rattle.decision.specs.Decided.{extentOpen, kernelOpen, kernelChecks, roomChecks, planOf, noPlan, decidedBy}
+use Rattle.decision.specs.Decision.{lentChecks, checks, answerOf, placedIn, decisionOf}
 use Rattle.loader.specs.Memory.{memoryAfter}
-use Rattle.theorems.specs.Promises.{conditions, Answered}
+use Rattle.loader.specs.LoadLaws.{Loads}
+use Rattle.theorems.specs.Promises.{conditions, Answered, Searched, Found}
 
 -- the answer of the check of the index k
 abbrev answerAt : List (Check Answer) → ℕ → Answer
@@ -61,15 +78,15 @@ item-none NoRoomForInformation h = refl
 
 module _ (x : Lent) where
   numbered : numberedFrom 1 (checks x) ≡ true
-  unfolding numberedFrom checks submissionChecks operatorChecks windowChecks mapChecks headerChecks loadChecks imageChecks kernelChecks roomChecks
+  unfolding numberedFrom checks lentChecks submissionChecks operatorChecks windowChecks mapChecks headerChecks loadChecks imageChecks kernelChecks roomChecks
   numbered = refl
 
   checked : map (λ (c : Check Answer). c .applies) (checks x) ≡ conditions x
-  unfolding conditions checks submissionChecks operatorChecks windowChecks mapChecks headerChecks loadChecks imageChecks kernelChecks roomChecks
+  unfolding conditions checks lentChecks submissionChecks operatorChecks windowChecks mapChecks headerChecks loadChecks imageChecks kernelChecks roomChecks
   checked = refl
 
   last-but-one : answerAt (checks x) 15 ≡ NoRoomForModule (placedIn x .done)
-  unfolding checks submissionChecks operatorChecks windowChecks mapChecks headerChecks loadChecks imageChecks kernelChecks roomChecks
+  unfolding checks lentChecks submissionChecks operatorChecks windowChecks mapChecks headerChecks loadChecks imageChecks kernelChecks roomChecks
   last-but-one = refl
 
   answer-is : decisionOf x .answer ≡ answerOf x
@@ -101,3 +118,32 @@ module _ (x : Lent) where
         plan = refusal-plan;
         window = refusal-window;
       }
+
+-- the searches among the conditions
+of-search : (s : List ℕ) (r : Search) → header s ≡ r → (noHeader (header s) ≡ true) ↔ ((o : ℕ) → HeaderAt s o → ⊥)
+of-search s Nothing e = (λ t. header-none s e, λ n. rw e refl)
+of-search s (At o) e = (λ t. absurd (false≢true (rw e at t)), λ n. rw (none-header s n) refl)
+
+kernel-open-is : (b : Board) (k : Kernel) → (kernelOpen b k ≡ true) ↔ ((i : ℕ) → i < k .count → (a : ℕ) → Holds (extentNo k i) a → Open b a)
+unfolding kernelOpen extentOpen
+kernel-open-is b k = (
+  λ e i l a h. open-is b a .0 (all-open-is b (extentNo k i .start .0) (extentNo k i .end .0) .0 (all-elim (extentOpen b k) 0 (k .count) e i (omega arith) (omega arith)) a (h .0) (h .1)),
+  λ h. all-intro (extentOpen b k) 0 (k .count) (λ i l m. all-open-is b (extentNo k i .start .0) (extentNo k i .end .0) .1 (λ a u v. open-is b a .1 (h i (omega arith) a (u, v)))),
+)
+
+pub searched : (x : Lent) → Searched x
+searched x =
+    record {
+      submission = (accepted (x .submission), rules-accept (x .submission));
+      map = (good-map (x .map), map-good (x .map));
+      header = of-search (imageIn x) (header (imageIn x)) refl;
+      kernel = kernel-open-is (boardIn x) (kernelIn x);
+    }
+
+-- the header of a load
+pub found : (x : Lent) → Loads x → Found x
+unfolding planOf
+found x h =
+    let k = accepted-image (imageIn x) (h .passed .image) in
+    let l = header-lowest (imageIn x) (kernelIn x .header) (k .found) in
+    record { header = l .0; lowest = l .1; calculated = calculated (imageIn x) (h .passed .image); kernel = refl }

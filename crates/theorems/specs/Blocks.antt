@@ -6,16 +6,17 @@ use mathlib.Core.Bool.{true}
 use mathlib.Core.List.{List, [], _∷_, _++_}
 use Prim.Native.Nat.{ℕ, _+_, _*_, _-_, _^_, _/_, min, _≤_, _<_}
 use native.Mathlib.Omega.{arith}
-use lib.ListN.{length, getD}
-use Rattle.laws.specs.Table.{listed}
+use lib.ListN.{length, getD, take, drop, length-map}
 use Rattle.laws.specs.Tests.{run}
 use Rattle.laws.specs.TestLaws.{run-says}
 use Rattle.number.specs.Number.{numberAt}
 use Rattle.number.specs.NumberLaws.{numberAt-inside}
 use Rattle.memory.specs.Patched.{patched}
-use Rattle.memory.specs.Writes.{Write, written}
+use Rattle.memory.specs.PatchedLaws.{part-inside}
+use Rattle.memory.specs.Writes.{written}
 use Rattle.memory.specs.WritesLaws.{written-append, length-written}
 use Rattle.address.specs.Address.{floor}
+use Rattle.address.specs.declared.Span.{Span}
 use Rattle.answer.specs.Answer.{isLoad}
 use Rattle.image.specs.JudgedLaws.{accepted}
 use Rattle.memory_map.specs.declared.MemMap.{MemMap}
@@ -23,19 +24,19 @@ use Rattle.memory_map.specs.Usable.{limit, usableAt}
 use Rattle.memory_map.specs.Sizes.{memLower, memUpper}
 use Rattle.memory_map.specs.Pairs.{mapOf, parsed}
 use Rattle.memory_map.specs.PairsLaws.{parsed-good}
-use Rattle.information.specs.Information.{lowerAt, upperAt, lineAt, countAt, modulesAt, mapLengthAt, mapAt, nameAt, flagsAt, structureSize, entrySize, addressOf, mapOffset, nameOffset, lineOffset, structureAt, structureOf, blockOf, contentsOf, blockLength}
+use Rattle.information.specs.Information.{lowerAt, upperAt, lineAt, countAt, modulesAt, mapLengthAt, mapAt, nameAt, flagsAt, structureSize, entrySize, loaderName, textsSize, addressOf, mapOffset, nameOffset, lineOffset, stringsOffset, structureAt, structureOf, stringLengths, blockOf, contentsOf, blockLength}
 use Rattle.information.specs.Information.{Loaded as LoadedModule}
-use Rattle.information.specs.TextLaws.{length-stringLengths}
-use Rattle.information.specs.Reading.{Small, Fields, EntryAt, fieldsAt, moduleOf, stringAddress}
-use Rattle.information.specs.InformationLaws.{fields, word-zero, entry-reads}
+use Rattle.information.specs.TextLaws.{size-some, address-some, length-stringLengths, block-length}
+use Rattle.information.specs.Reading.{lengthOf, Small, Fields, EntryAt, fieldsAt, moduleOf, stringOffset, stringAddress}
+use Rattle.information.specs.InformationLaws.{length-block, map-stands, name-stands, line-stands, string-stands, text-taken, texts-room, fields, word-zero, entry-reads}
 use Rattle.information.specs.WritingLaws.{length-loaded, length-load, load-small, load-module}
 use Rattle.decision.specs.Lent.{Lent, layoutIn, kernelIn, imageIn, lineIn, blockIn}
 use Rattle.decision.specs.Decided.{planOf}
 use Rattle.decision.specs.Decision.{answerOf, planIn}
-use Rattle.loader.specs.Memory.{segmentWrite, moduleWrite, contentsIn, blockWrite, writesOf, memoryAfter}
-use Rattle.loader.specs.LoadLaws.{Loads, spanIn, span-inside, block-span, block-length}
+use Rattle.loader.specs.Memory.{segmentWrites, moduleWrites, contentsIn, blockWrite, writesOf, memoryAfter}
+use Rattle.loader.specs.LoadLaws.{Loads, spanIn, span-inside, block-span}
 use Rattle.loader.specs.WriteLaws.{spans-low, strings-in, room}
-use Rattle.theorems.specs.Promises.{moduleSpan, wordAt, ReadBack}
+use Rattle.theorems.specs.Promises.{moduleSpan, wordAt, bytesFrom, stringIn, ReadBack}
 
 lower-small : (m : MemMap) → memLower m < 2 ^ 32
 unfolding memLower
@@ -62,23 +63,31 @@ module _ (x : Lent) (h : Loads x) where
   sizes-read = rw (← parsed-good (x .map) (h .passed .map)) refl
 
   module _ (w : List ℕ) (n : length w ≡ x .size) (load : isLoad (answerOf x) ≡ true) where
-    front : List Write
-    front =
-        listed (segmentWrite (x .first) (imageIn x) (planIn x .kernel)) (planIn x .kernel .count)
-        ++ listed (moduleWrite (x .first) (x .submission) (layoutIn x) (planIn x .modules)) (layoutIn x .count)
-
     -- the block is the last write
-    memory-last : memoryAfter x w ≡ patched (written w front) (planIn x .block .start .0 - x .first) (blockOf (contentsIn x))
-    unfolding memoryAfter writesOf blockWrite written front
-    memory-last = rw load (written-append w front (blockWrite x ∷ []))
+    memory-last : memoryAfter x w ≡ patched (written w (segmentWrites x ++ moduleWrites x)) (planIn x .block .start .0 - x .first) (blockOf (contentsIn x))
+    unfolding memoryAfter writesOf blockWrite written
+    memory-last = rw load (written-append w (segmentWrites x ++ moduleWrites x) (blockWrite x ∷ []))
+
+    -- it has room there
+    inside : planIn x .block .start .0 - x .first + length (blockOf (contentsIn x)) ≤ length (written w (segmentWrites x ++ moduleWrites x))
+    inside = omega (arith, length-block-is, length-written w (segmentWrites x ++ moduleWrites x), room x h .inside)
 
     -- a word of the block is read back as it stands there
     read : (k : ℕ) → k + 4 ≤ blockIn x → wordAt x w k ≡ numberAt 4 (blockOf (contentsIn x)) k
     unfolding planOf
     read k l =
-        let r = room x h in
         ap (λ (m : List ℕ). numberAt 4 m (planIn x .block .start .0 - x .first + k)) memory-last
-        ∙ numberAt-inside 4 (written w front) (planIn x .block .start .0 - x .first) (blockOf (contentsIn x)) k (omega (arith, length-block-is)) (omega (arith, length-block-is, length-written w front, r .inside))
+        ∙ numberAt-inside 4 (written w (segmentWrites x ++ moduleWrites x)) (planIn x .block .start .0 - x .first) (blockOf (contentsIn x)) k (omega (arith, length-block-is)) inside
+
+    -- so are n bytes from an address of the block on
+    read-bytes : (a n : ℕ) → planIn x .block .start .0 ≤ a → a + n ≤ planIn x .block .start .0 + blockIn x
+        → bytesFrom x w a n ≡ take n (drop (a - planIn x .block .start .0) (blockOf (contentsIn x)))
+    read-bytes a n l m =
+        let s = span-inside x h (kernelIn x .count + layoutIn x .count) (omega arith) in
+        let b = ap (λ (t : Span). t .start .0) (block-span x h) in
+        let e : a - x .first ≡ planIn x .block .start .0 - x .first + (a - planIn x .block .start .0) = omega (arith, s .low) in
+        rw (e, memory-last)
+        (part-inside n (a - planIn x .block .start .0) (written w (segmentWrites x ++ moduleWrites x)) (planIn x .block .start .0 - x .first) (blockOf (contentsIn x)) (omega (arith, length-block-is)) inside)
 
     block-long : structureSize + entrySize * layoutIn x .count ≤ blockIn x
     unfolding blockLength
@@ -95,6 +104,42 @@ module _ (x : Lent) (h : Loads x) where
     module-is i l =
         let e = load-module (x .submission) (layoutIn x) (planIn x .modules) (x .map) (lineIn x) (planIn x .block .start .0) (memLower (parsed (x .map) .map)) (memUpper (parsed (x .map) .map)) i l in
         (ap (λ (m : LoadedModule). m .start) e, ap (λ (m : LoadedModule). m .end) e)
+
+    -- the length of the block, part by part
+    block-parts : blockIn x ≡ stringsOffset (layoutIn x .count) (length (x .map)) (length (lineIn x)) + textsSize (stringLengths (layoutIn x) (layoutIn x .count))
+    block-parts = block-length (layoutIn x) (layoutIn x .count) (length (x .map)) (length (lineIn x))
+
+    map-read : bytesFrom x w (structureOf (contentsIn x) .map) (length (x .map)) ≡ x .map
+    unfolding contentsIn structureAt
+    map-read = read-bytes (structureOf (contentsIn x) .map) (length (x .map)) (omega arith) (omega (arith, block-parts, modules-length)) ∙ map-stands (contentsIn x)
+
+    name-read : bytesFrom x w (structureOf (contentsIn x) .name) (length loaderName) ≡ loaderName
+    unfolding contentsIn structureAt
+    name-read = read-bytes (structureOf (contentsIn x) .name) (length loaderName) (omega arith) (omega (arith, block-parts, modules-length)) ∙ name-stands (contentsIn x)
+
+    line-read : (length (lineIn x) ≡ 0 → ⊥) → bytesFrom x w (structureOf (contentsIn x) .line) (length (lineIn x) + 1) ≡ lineIn x ++ (0 ∷ [])
+    unfolding contentsIn structureAt
+    line-read n =
+        let a = address-some (planIn x .block .start .0 + lineOffset (length (contentsIn x .modules)) (length (x .map))) (length (lineIn x)) n in
+        read-bytes (structureOf (contentsIn x) .line) (length (lineIn x) + 1) (omega arith) (omega (arith, block-parts, modules-length, size-some (length (lineIn x)) n))
+        ∙ text-taken (blockOf (contentsIn x)) _ (lineIn x) (line-stands (contentsIn x) n)
+
+    string-is : (i : ℕ) → i < layoutIn x .count → moduleOf (contentsIn x) i .string ≡ stringIn x i
+    unfolding contentsIn
+    string-is i l = ap (λ (m : LoadedModule). m .string) (load-module (x .submission) (layoutIn x) (planIn x .modules) (x .map) (lineIn x) (planIn x .block .start .0) (memLower (parsed (x .map) .map)) (memUpper (parsed (x .map) .map)) i l)
+
+    string-read : (i : ℕ) → i < layoutIn x .count → (length (stringIn x i) ≡ 0 → ⊥) → bytesFrom x w (stringAddress (contentsIn x) i) (length (stringIn x i) + 1) ≡ stringIn x i ++ (0 ∷ [])
+    unfolding blockLength contentsIn
+    string-read i l n =
+        let c = contentsIn x in
+        let k : i < length (c .modules) = omega (arith, modules-length) in
+        let s = string-is i l in
+        let z : length (moduleOf c i .string) ≡ 0 → ⊥ = rw s n in
+        let a = address-some (c .start + stringOffset c i) (length (moduleOf c i .string)) z in
+        let r = texts-room (c .modules) i k in
+        rw (← s)
+        (read-bytes (stringAddress c i) (length (moduleOf c i .string) + 1) (omega arith) (omega (arith, length-block c, length-block-is, length-map (c .modules) lengthOf, size-some (length (moduleOf c i .string)) z))
+        ∙ text-taken (blockOf c) _ (moduleOf c i .string) (string-stands c i k z))
 
     pub read-back : ReadBack x w
     unfolding planOf contentsIn structureAt
@@ -120,4 +165,8 @@ module _ (x : Lent) (h : Loads x) where
           ends = λ i l. read (structureSize + entrySize * i + 4) (omega arith) ∙ entry i l .end-word ∙ module-is i l .1;
           strings = λ i l. read (structureSize + entrySize * i + 8) (omega arith) ∙ entry i l .string-word;
           reserved = λ i l. read (structureSize + entrySize * i + 12) (omega arith) ∙ entry i l .zero-word;
+          map-bytes = rw (read mapAt (omega arith) ∙ found .map) map-read;
+          name-bytes = rw (read nameAt (omega arith) ∙ found .name) name-read;
+          line-bytes = λ n. rw (read lineAt (omega arith) ∙ found .line) (line-read n);
+          string-bytes = λ i l n. rw (read (structureSize + entrySize * i + 8) (omega arith) ∙ entry i l .string-word) (string-read i l n);
         }

@@ -21,71 +21,58 @@ use Rattle.address.specs.declared.Span.{Span}
 use Rattle.answer.specs.Answer.{isLoad}
 use Rattle.submission.specs.declared.Part.{Part}
 use Rattle.submission.specs.Format.{bytesOf, moduleCount, moduleNo}
-use Rattle.submission.specs.FormatLaws.{layout-count, module-at, length-bytesOf}
+use Rattle.submission.specs.FormatLaws.{layout-count, module-at, length-bytesOf, bytesOf-at}
 use Rattle.submission.specs.RuleLaws.{data-inside}
 use Rattle.image.specs.declared.Segment.{Segment}
 use Rattle.image.specs.JudgedLaws.{accepted}
-use Rattle.placement.specs.FreeLaws.{Holds}
+use Rattle.address.specs.InsideLaws.{Holds}
 use Rattle.information.specs.Information.{blockOf}
 use Rattle.information.specs.WritingLaws.{length-load}
 use Rattle.decision.specs.Lent.{Lent, layoutIn, imageIn, kernelIn, lineIn, blockIn}
 use Rattle.decision.specs.Gather.{extentNo}
 use Rattle.decision.specs.Decided.{planOf}
 use Rattle.decision.specs.Decision.{answerOf, planIn}
-use Rattle.loader.specs.Memory.{segmentWrite, moduleWrite, contentsIn, blockWrite, writesOf, memoryAfter}
+use Rattle.loader.specs.Memory.{segmentWrite, segmentWrites, moduleWrite, moduleWrites, contentsIn, blockWrite, writesOf, memoryAfter}
 use Rattle.loader.specs.LoadLaws.{Loads, loads, spanIn, countIn, Inside, span-inside, span-apart, kernel-span, one-segment, module-span, block-span, module-length, block-length}
 use Rattle.loader.specs.WriteLaws.{strings-in}
 use Rattle.theorems.specs.Promises.{byteAt, moduleSpan, Elsewhere, Written}
 
 module _ (x : Lent) (h : Loads x) where
   -- the write of each span, in the order of the spans
-  segments : List Write
-  segments = listed (segmentWrite (x .first) (imageIn x) (planIn x .kernel)) (planIn x .kernel .count)
-
-  modules : List Write
-  modules = listed (moduleWrite (x .first) (x .submission) (layoutIn x) (planIn x .modules)) (layoutIn x .count)
-
-  plan-kernel : planIn x .kernel ≡ kernelIn x
-  unfolding planOf
-  plan-kernel = refl
-
-  writes-are : writesOf x ≡ segments ++ modules ++ (blockWrite x ∷ [])
-  unfolding writesOf segments modules
-  writes-are = refl
-
-  length-segments : length segments ≡ kernelIn x .count
-  unfolding segments planOf
+  length-segments : length (segmentWrites x) ≡ kernelIn x .count
+  unfolding segmentWrites planOf
   length-segments = length-listed (segmentWrite (x .first) (imageIn x) (kernelIn x)) (kernelIn x .count)
 
-  length-modules : length modules ≡ layoutIn x .count
-  unfolding modules
+  length-modules : length (moduleWrites x) ≡ layoutIn x .count
+  unfolding moduleWrites
   length-modules = length-listed (moduleWrite (x .first) (x .submission) (layoutIn x) (planIn x .modules)) (layoutIn x .count)
 
-  length-front : length (segments ++ modules) ≡ kernelIn x .count + layoutIn x .count
-  length-front = length-append segments modules ∙ omega (arith, length-segments, length-modules)
+  length-front : length (segmentWrites x ++ moduleWrites x) ≡ kernelIn x .count + layoutIn x .count
+  length-front = length-append (segmentWrites x) (moduleWrites x) ∙ omega (arith, length-segments, length-modules)
 
   length-writes : length (writesOf x) ≡ countIn x
-  length-writes = rw writes-are (length-append (segments ++ modules) (blockWrite x ∷ []) ∙ omega (arith, length-front))
+  unfolding writesOf
+  length-writes = length-append (segmentWrites x ++ moduleWrites x) (blockWrite x ∷ []) ∙ omega (arith, length-front)
 
   segment-write : (i : ℕ) → i < kernelIn x .count → writeAt (writesOf x) i ≡ segmentWrite (x .first) (imageIn x) (kernelIn x) i
-  unfolding segments planOf
+  unfolding writesOf segmentWrites planOf
   segment-write i u =
-      rw writes-are
-      (List·getD-append (segments ++ modules) (blockWrite x ∷ []) noWrite i (omega (arith, length-front))
-      ∙ List·getD-append segments modules noWrite i (omega (arith, length-segments))
-      ∙ listed-at (segmentWrite (x .first) (imageIn x) (kernelIn x)) (kernelIn x .count) i noWrite u)
+      List·getD-append (segmentWrites x ++ moduleWrites x) (blockWrite x ∷ []) noWrite i (omega (arith, length-front))
+      ∙ List·getD-append (segmentWrites x) (moduleWrites x) noWrite i (omega (arith, length-segments))
+      ∙ listed-at (segmentWrite (x .first) (imageIn x) (kernelIn x)) (kernelIn x .count) i noWrite u
 
   module-write : (i : ℕ) → i < layoutIn x .count → writeAt (writesOf x) (kernelIn x .count + i) ≡ moduleWrite (x .first) (x .submission) (layoutIn x) (planIn x .modules) i
-  unfolding modules
+  unfolding writesOf moduleWrites
   module-write i u =
-      let e : kernelIn x .count + i ≡ length segments + i = omega (arith, length-segments) in
-      rw (writes-are, e)
-      (List·getD-append (segments ++ modules) (blockWrite x ∷ []) noWrite (length segments + i) (omega (arith, length-front, length-segments))
-      ∙ getD-append-add segments modules i noWrite
+      let e : kernelIn x .count + i ≡ length (segmentWrites x) + i = omega (arith, length-segments) in
+      rw e
+      (List·getD-append (segmentWrites x ++ moduleWrites x) (blockWrite x ∷ []) noWrite (length (segmentWrites x) + i) (omega (arith, length-front, length-segments))
+      ∙ getD-append-add (segmentWrites x) (moduleWrites x) i noWrite
       ∙ listed-at (moduleWrite (x .first) (x .submission) (layoutIn x) (planIn x .modules)) (layoutIn x .count) i noWrite u)
 
   block-write : writeAt (writesOf x) (kernelIn x .count + layoutIn x .count) ≡ blockWrite x
-  block-write = rw writes-are (getD-at (segments ++ modules) (blockWrite x) [] noWrite (kernelIn x .count + layoutIn x .count) length-front)
+  unfolding writesOf
+  block-write = getD-at (segmentWrites x ++ moduleWrites x) (blockWrite x) [] noWrite (kernelIn x .count + layoutIn x .count) length-front
 
   -- the write of a span begins at its start, and is as long
   record WriteOf (j : ℕ) : Type 0 where
@@ -180,9 +167,6 @@ module _ (x : Lent) (h : Loads x) where
         ap (λ (v : List ℕ). getD v (a - x .first) 0) memory-is
         ∙ written-outside w (writesOf x) (a - x .first) 0 (λ j l c. m j (omega (arith, length-writes)) (holds-of j (omega (arith, length-writes)) a u c))
 
-    part-byte : (s : List ℕ) (p : Part) (i : ℕ) → i < p .len → getD (bytesOf s p) i 0 ≡ getD s (p .at + i) 0
-    part-byte s p i l = getD-take (p .len) (drop (p .at) s) i 0 l ∙ getD-drop (p .at) s i 0
-
     -- the kernel has one segment, whose load bytes lie inside the image
     module _ (i : ℕ) (u : i < kernelIn x .count) (a : ℕ) where
       s : Segment
@@ -219,7 +203,7 @@ module _ (x : Lent) (h : Loads x) where
       loaded-byte l m =
           in-span l (omega (arith, ordered .1))
           ∙ List·getD-append (bytesOf (imageIn x) p) (zeros (s .end .0 - s .loaded .0)) 0 (a - s .start .0) (omega (arith, length-part))
-          ∙ part-byte (imageIn x) p (a - s .start .0) (omega arith)
+          ∙ bytesOf-at (imageIn x) p (a - s .start .0) (omega arith)
 
       bss-byte : s .loaded .0 ≤ a → a < s .end .0 → byteAt x w a ≡ 0
       unfolding s p
@@ -237,7 +221,7 @@ module _ (x : Lent) (h : Loads x) where
         let n = module-length x h i u in
         let q : Holds (spanIn x (kernelIn x .count + i)) a = rw e at m in
         byte-in (kernelIn x .count + i) (omega arith) a q
-        ∙ rw (module-write i u, e) (part-byte (x .submission) (moduleNo (layoutIn x) i .«data») (a - spanIn x (kernelIn x .count + i) .start .0) (omega arith))
+        ∙ rw (module-write i u, e) (bytesOf-at (x .submission) (moduleNo (layoutIn x) i .«data») (a - spanIn x (kernelIn x .count + i) .start .0) (omega arith))
 
     block-byte : (a : ℕ) → Holds (planIn x .block) a → byteAt x w a ≡ getD (blockOf (contentsIn x)) (a - planIn x .block .start .0) 0
     unfolding blockWrite

@@ -14,7 +14,7 @@ use lib.Seq.{getD-append-add}
 use Rattle.address.specs.Address.{noSpan}
 use Rattle.laws.specs.Checks.{Check, firstOf}
 use Rattle.laws.specs.Table.{listed}
-use Rattle.laws.specs.TableLaws.{length-listed, table-at}
+use Rattle.laws.specs.TableLaws.{table-at, table-past}
 use Rattle.laws.specs.TestLaws.{lt-or-le}
 use Rattle.address.specs.declared.Span.{Span}
 use Rattle.answer.specs.Answer.{numberOf, isLoad, orElse}
@@ -30,16 +30,16 @@ use Rattle.memory_map.specs.Pairs.{mapChecks}
 use Rattle.image.specs.Judged.{headerChecks, loadChecks, imageChecks, segmentNo}
 use Rattle.image.specs.JudgedLaws.{accepted}
 use Rattle.placement.specs.Free.{maxSpans, spanAt}
-use Rattle.placement.specs.Demand.{InOrder}
+use Rattle.placement.specs.Placing.{InOrder}
 use Rattle.decision.specs.Lent.{Lent, layoutIn, imageIn, kernelIn, boardIn, blockIn}
 use Rattle.decision.specs.Gather.{extentNo, extentsOf, itemsOf, moduleSpans}
 use Rattle.decision.specs.Decided.{kernelOpen, kernelChecks, roomChecks, memoryChecks, planOf}
-use Rattle.decision.specs.Decision.{checks, answerOf, placedIn, planIn}
-use Rattle.decision.specs.DecisionLaws.{lentChecks, checks-split, lent-refuses, Passed, passed, prepared}
+use Rattle.decision.specs.Decision.{lentChecks, checks, answerOf, placedIn, planIn}
+use Rattle.decision.specs.DecisionLaws.{lent-refuses, Passed, passed, prepared}
 use Rattle.decision.specs.PlacedLaws.{item-at, item-module, item-block, in-order}
 use Rattle.decision.specs.StageLaws.{kernel-refuses}
 use Rattle.loader.specs.LoadLaws.{Loads, module-span, block-span, span-apart, one-segment}
-use Rattle.theorems.specs.Promises.{Reached, itemIn, SuitsIn, Placing, Apart}
+use Rattle.theorems.specs.Promises.{moduleSpan, Reached, itemIn, SuitsIn, Placing, Apart}
 
 -- the checks of a chain's first part
 applies-front : (ks ls : List (Check Answer)) (k : ℕ) → k < length ks → appliesAt (ks ++ ls) k ≡ appliesAt ks k
@@ -94,9 +94,10 @@ module _ (x : Lent) (r : Reached x) where
   lent-count = refl
 
   lent-none : (k : ℕ) → appliesAt (lentChecks x) k ≡ false
+  unfolding checks
   lent-none k =
       ⊎-elim
-      (λ (l : k < 14). sym (applies-front (lentChecks x) (memoryChecks (boardIn x) (kernelIn x) (layoutIn x) (blockIn x)) k (omega (arith, lent-count))) ∙ ap (λ (ks : List (Check Answer)). appliesAt ks k) (sym (checks-split x)) ∙ r k (omega arith))
+      (λ (l : k < 14). sym (applies-front (lentChecks x) (memoryChecks (boardIn x) (kernelIn x) (layoutIn x) (blockIn x)) k (omega (arith, lent-count))) ∙ r k (omega arith))
       (λ (l : 14 ≤ k). applies-past (lentChecks x) k (omega (arith, lent-count)))
       (lt-or-le k 14)
 
@@ -113,8 +114,9 @@ module _ (x : Lent) (r : Reached x) where
 
   -- the answer is that of the room
   room-answer : answerOf x ≡ firstOf (roomChecks (placedIn x .done) (layoutIn x .count)) Load
+  unfolding checks
   room-answer =
-      rw (checks-split x, chain-append (lentChecks x) (memoryChecks (boardIn x) (kernelIn x) (layoutIn x) (blockIn x)) (lent-refuses x))
+      rw (chain-append (lentChecks x) (memoryChecks (boardIn x) (kernelIn x) (layoutIn x) (blockIn x)) (lent-refuses x))
       (or-else-second _ _ lent-load
       ∙ chain-append (kernelChecks (boardIn x) (kernelIn x)) (roomChecks (placedIn x .done) (layoutIn x .count)) (kernel-refuses (boardIn x) (kernelIn x))
       ∙ or-else-second _ _ kernel-load)
@@ -151,12 +153,9 @@ module _ (x : Lent) (r : Reached x) where
       }
 
 module _ (x : Lent) (h : Loads x) where
-  past : (i : ℕ) → layoutIn x .count ≤ i → i < 16 → getD (planIn x .modules) i noSpan ≡ noSpan
+  past : (i : ℕ) → layoutIn x .count ≤ i → moduleSpan x i ≡ noSpan
   unfolding planOf moduleSpans
-  past i l m =
-      let f : ℕ → Span = λ j. spanAt (placedIn x .spans) (kernelIn x .count + j) in
-      let e : i ≡ length (listed f (layoutIn x .count)) + (i - layoutIn x .count) = omega (arith, length-listed f (layoutIn x .count)) in
-      rw e (getD-append-add (listed f (layoutIn x .count)) (replicate (moduleLimit - layoutIn x .count) noSpan) (i - layoutIn x .count) noSpan ∙ getD-replicate (moduleLimit - layoutIn x .count) (i - layoutIn x .count) noSpan noSpan (omega arith))
+  past i l = table-past (λ j. spanAt (placedIn x .spans) (kernelIn x .count + j)) moduleLimit noSpan (layoutIn x .count) i l
 
   pub apart : Apart x
   apart =

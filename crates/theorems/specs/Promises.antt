@@ -1,20 +1,21 @@
 -- The promises of a load, for every submission, operator's line, memory map and window. x is what is lent, w the window's
 -- bytes before. `loader::load` answers `decisionOf x` and leaves `memoryAfter x w` in the window.
---     conditions, Answered     1. each answer exactly on its condition, in the order of checks; a refusal touches nothing
---     Written, ReadBack        2. each byte of the window after a load, and what stands in the information block
---     Placing                  3. each item at its lowest place, and no room exactly where there is none
---     Apart                    no byte is shared
--- That the work always ends is part of what a proved function is. The proofs are in Answers, Bytes and Places.
+--     conditions, Answered, Searched    1. each answer exactly on its condition, in the order of checks; a refusal touches nothing
+--     Found                             2. the header found, the load addresses and the entry,
+--     Written, ReadBack                    each byte of the window after a load, and what a kernel reads in the information block
+--     Placing                           3. each item at its lowest place, and no room exactly where there is none
+--     Apart                             no byte is shared
+-- That the work always ends is part of what a proved function is. The proofs are in Answers, Bytes, Blocks and Places.
 -- Assumes nothing.
 use mathlib.Core.Path.{_≡_}
 use mathlib.Core.Bool.{Bool, true, false, not, _||_}
-use mathlib.Core.List.{List, [], _∷_, map}
+use mathlib.Core.List.{List, [], _∷_, _++_, map}
 use mathlib.Core.Logic.{_↔_}
 use Prim.Native.Nat.{ℕ, _+_, _*_, _-_, _≤_, _<_}
 use lib.Dec.{ltb}
-use lib.ListN.{length, getD}
-use Rattle.submission.specs.Format.{moduleNo}
-use Rattle.laws.specs.Checks.{Check}
+use lib.ListN.{length, getD, take, drop}
+use Rattle.submission.specs.Format.{moduleNo, bytesOf}
+use Rattle.laws.specs.Checks.{Check, passes}
 use Rattle.number.specs.Number.{numberAt}
 use Rattle.address.specs.Address.{top, boundaryOf, noSpan}
 use Rattle.address.specs.declared.Span.{Span}
@@ -23,21 +24,24 @@ use Rattle.answer.specs.Order.{appliesAt, First}
 use Rattle.answer.specs.declared.Answer.{Answer}
 use Rattle.answer.specs.declared.Answer.the-variants.{NoRoomForModule, NoRoomForInformation}
 use Rattle.submission.specs.Scan.{hasZero}
-use Rattle.submission.specs.Rules.{lineLimit, isSubmission, rulesHold}
+use Rattle.submission.specs.Rules.{lineLimit, isSubmission, rulesHold, submissionChecks}
+use Rattle.submission.specs.RuleLaws.{Accepted}
 use Rattle.memory_map.specs.Pairs.{badMap, mapOf}
+use Rattle.memory_map.specs.PairsLaws.{GoodMap}
 use Rattle.memory_map.specs.Sizes.{memLower, memUpper}
 use Rattle.image.specs.Header.{header}
-use Rattle.image.specs.Load.{fieldsAt as headerFieldsAt}
-use Rattle.image.specs.Load.{flagsAt, loadOffset, loadLength, loadEnd}
-use Rattle.image.specs.Judged.{noHeader, offsetOf, unknownRequest, noAddresses, cutOff, beforeImage, nothingLeft, pastImage, bssBelow, entryOutside, segmentNo}
+use Rattle.image.specs.HeaderLaws.{HeaderAt}
+use Rattle.image.specs.Load.{loadEnd}
+use Rattle.image.specs.Judged.{noHeader, headerOffset, headerFlags, headerFields, firstLoaded, countLoaded, unknownRequest, noAddresses, cutOff, beforeImage, nothingLeft, pastImage, bssBelow, entryOutside, segmentNo}
+use Rattle.image.specs.JudgedLaws.{Calculated}
 use Rattle.board.specs.Open.{openAt}
+use Rattle.board.specs.OpenLaws.{Open}
 use Rattle.placement.specs.declared.Item.{Item}
 use Rattle.placement.specs.Free.{spanAt}
-use Rattle.placement.specs.FreeLaws.{Holds}
+use Rattle.address.specs.InsideLaws.{Holds}
 use Rattle.placement.specs.Order.{itemAt}
-use Rattle.placement.specs.Demand.{Suits, Stands, upTo}
-use Rattle.information.specs.Information.{lowerAt, upperAt, lineAt, countAt, modulesAt, mapLengthAt, mapAt, nameAt, structureSize, entrySize, flagsOf, addressOf, mapOffset, nameOffset, lineOffset, blockOf}
-use Rattle.information.specs.Information.{flagsAt as structureFlagsAt}
+use Rattle.placement.specs.Placing.{Suits, Stands, upTo}
+use Rattle.information.specs.Information.{flagsAt, lowerAt, upperAt, lineAt, countAt, modulesAt, mapLengthAt, mapAt, nameAt, structureSize, entrySize, loaderName, flagsOf, addressOf, mapOffset, nameOffset, lineOffset, blockOf}
 use Rattle.information.specs.Reading.{fieldsAt, stringAddress}
 use Rattle.decision.specs.Lent.{Lent, layoutIn, imageIn, kernelIn, lineIn, boardIn, blockIn}
 use Rattle.decision.specs.Gather.{extentNo, extentsOf, itemsOf}
@@ -49,28 +53,37 @@ use Rattle.loader.specs.Memory.{contentsIn, memoryAfter}
 unfoldable pub conditions : Lent → List Bool
 conditions x =
     let image = imageIn x in
-    let o = offsetOf (header image) in
-    let h = headerFieldsAt image o in
-    let offset = loadOffset h o in
-    let n = loadLength h offset (length image) in
+    let h = headerFields image in
+    let end = loadEnd h (countLoaded image) in
     not (isSubmission (x .submission))
     ∷ not (rulesHold (x .submission))
     ∷ (ltb lineLimit (length (x .operator)) || hasZero (x .operator))
     ∷ ltb top (x .first + x .size)
     ∷ badMap (x .map)
     ∷ noHeader (header image)
-    ∷ unknownRequest (flagsAt image o)
-    ∷ noAddresses (flagsAt image o)
-    ∷ cutOff o (length image)
-    ∷ beforeImage h o
-    ∷ nothingLeft h offset (length image)
-    ∷ pastImage h offset n (length image)
-    ∷ bssBelow h (loadEnd h n)
-    ∷ entryOutside h (loadEnd h n)
+    ∷ unknownRequest (headerFlags image)
+    ∷ noAddresses (headerFlags image)
+    ∷ cutOff (headerOffset image) (length image)
+    ∷ beforeImage h (headerOffset image)
+    ∷ nothingLeft h (firstLoaded image) (length image)
+    ∷ pastImage h (firstLoaded image) (countLoaded image) (length image)
+    ∷ bssBelow h end
+    ∷ entryOutside h end
     ∷ not (kernelOpen (boardIn x) (kernelIn x))
     ∷ ltb (placedIn x .done) (layoutIn x .count)
     ∷ ltb (placedIn x .done) (layoutIn x .count + 1)
     ∷ []
+
+-- what those conditions say that are searches
+pub record Searched (x : Lent) : Type 0 where
+  -- 1 and 2: the submission breaks a rule of its format
+  pub submission : (passes (submissionChecks (x .submission)) ≡ true) ↔ Accepted (x .submission)
+  -- 5: the map breaks a rule of a map
+  pub map : (badMap (x .map) ≡ false) ↔ GoodMap (x .map)
+  -- 6: at no offset of the image stands a header
+  pub header : (noHeader (header (imageIn x)) ≡ true) ↔ ((o : ℕ) → HeaderAt (imageIn x) o → ⊥)
+  -- 15: an address of the kernel's extents is not open
+  pub kernel : (kernelOpen (boardIn x) (kernelIn x) ≡ true) ↔ ((i : ℕ) → i < kernelIn x .count → (a : ℕ) → Holds (extentNo (kernelIn x) i) a → Open (boardIn x) a)
 
 -- 1. the answer
 pub record Answered (x : Lent) : Type 0 where
@@ -86,6 +99,16 @@ pub record Answered (x : Lent) : Type 0 where
   -- a refusal has a plan of zeros, and leaves the window as it was
   pub plan : (numberOf (decisionOf x .answer) ≡ 0 → ⊥) → decisionOf x .plan ≡ noPlan
   pub window : (numberOf (decisionOf x .answer) ≡ 0 → ⊥) → (w : List ℕ) → memoryAfter x w ≡ w
+
+-- 2. the header found, and the load calculation
+pub record Found (x : Lent) : Type 0 where
+  -- the header is the lowest that stands in the image
+  pub header : HeaderAt (imageIn x) (kernelIn x .header .0)
+  pub lowest : (o : ℕ) → o < kernelIn x .header .0 → HeaderAt (imageIn x) o → ⊥
+  -- where the load begins and ends in image and memory, and where it is entered, by the numbers in the header
+  pub calculated : Calculated (imageIn x) (kernelIn x)
+  -- this is what the plan gives
+  pub kernel : planIn x .kernel ≡ kernelIn x
 
 -- the byte at an address of the window after a load
 abbrev pub byteAt : Lent → List ℕ → ℕ → ℕ
@@ -117,12 +140,20 @@ pub record Written (x : Lent) (w : List ℕ) : Type 0 where
 abbrev pub wordAt : Lent → List ℕ → ℕ → ℕ
 wordAt x w k = numberAt 4 (memoryAfter x w) (planIn x .ebx - x .first + k)
 
+-- so many bytes of the window after a load, from an address on
+abbrev pub bytesFrom : Lent → List ℕ → ℕ → ℕ → List ℕ
+bytesFrom x w a n = take n (drop (a - x .first) (memoryAfter x w))
+
+-- the string of a module
+abbrev pub stringIn : Lent → ℕ → List ℕ
+stringIn x i = bytesOf (x .submission) (moduleNo (layoutIn x) i .string)
+
 -- what a kernel finds there, and what else it is handed
 pub record ReadBack (x : Lent) (w : List ℕ) : Type 0 where
   pub eax : planIn x .eax ≡ bootMagic
   pub ebx : planIn x .ebx ≡ planIn x .block .start .0
   pub entry : (segmentNo (kernelIn x) 0 .start .0 ≤ kernelIn x .entry .0) × (kernelIn x .entry .0 < segmentNo (kernelIn x) 0 .loaded .0)
-  pub flags : wordAt x w structureFlagsAt ≡ flagsOf (length (lineIn x))
+  pub flags : wordAt x w flagsAt ≡ flagsOf (length (lineIn x))
   pub lower : wordAt x w lowerAt ≡ memLower (mapOf (x .map))
   pub upper : wordAt x w upperAt ≡ memUpper (mapOf (x .map))
   pub line : wordAt x w lineAt ≡ addressOf (planIn x .ebx + lineOffset (layoutIn x .count) (length (x .map))) (length (lineIn x))
@@ -137,6 +168,12 @@ pub record ReadBack (x : Lent) (w : List ℕ) : Type 0 where
   pub ends : (i : ℕ) → i < layoutIn x .count → wordAt x w (structureSize + entrySize * i + 4) ≡ moduleSpan x i .end .0
   pub strings : (i : ℕ) → i < layoutIn x .count → wordAt x w (structureSize + entrySize * i + 8) ≡ stringAddress (contentsIn x) i
   pub reserved : (i : ℕ) → i < layoutIn x .count → wordAt x w (structureSize + entrySize * i + 12) ≡ 0
+  -- what stands at these addresses: the map as it was lent, the loader's name, and with their zeros the command line and the strings
+  pub map-bytes : bytesFrom x w (wordAt x w mapAt) (length (x .map)) ≡ x .map
+  pub name-bytes : bytesFrom x w (wordAt x w nameAt) (length loaderName) ≡ loaderName
+  pub line-bytes : (length (lineIn x) ≡ 0 → ⊥) → bytesFrom x w (wordAt x w lineAt) (length (lineIn x) + 1) ≡ lineIn x ++ (0 ∷ [])
+  pub string-bytes : (i : ℕ) → i < layoutIn x .count → (length (stringIn x i) ≡ 0 → ⊥)
+      → bytesFrom x w (wordAt x w (structureSize + entrySize * i + 8)) (length (stringIn x i) + 1) ≡ stringIn x i ++ (0 ∷ [])
 
 -- none of checks 1 to 15 applies
 abbrev pub Reached : Lent → Type 0
@@ -166,7 +203,7 @@ pub record Placing (x : Lent) : Type 0 where
 pub record Apart (x : Lent) : Type 0 where
   pub modules : (i : ℕ) → i < layoutIn x .count → moduleSpan x i ≡ spanAt (placedIn x .spans) (kernelIn x .count + i)
   pub block : planIn x .block ≡ spanAt (placedIn x .spans) (kernelIn x .count + layoutIn x .count)
-  pub past : (i : ℕ) → layoutIn x .count ≤ i → i < 16 → moduleSpan x i ≡ noSpan
+  pub past : (i : ℕ) → layoutIn x .count ≤ i → moduleSpan x i ≡ noSpan
   pub apart : (i j : ℕ) → i < j → j < kernelIn x .count + (layoutIn x .count + 1) → (a : ℕ) → Holds (spanAt (placedIn x .spans) i) a → Holds (spanAt (placedIn x .spans) j) a → ⊥
   -- the load bytes come before the bss
   pub loaded : (i : ℕ) → i < kernelIn x .count → (segmentNo (kernelIn x) i .start .0 < segmentNo (kernelIn x) i .loaded .0) × (segmentNo (kernelIn x) i .loaded .0 ≤ segmentNo (kernelIn x) i .end .0)
@@ -174,6 +211,8 @@ pub record Apart (x : Lent) : Type 0 where
 -- all of it, for what is lent and a window of that size
 pub record Promised (x : Lent) (w : List ℕ) : Type 0 where
   pub answered : Answered x
+  pub searched : Searched x
+  pub found : numberOf (decisionOf x .answer) ≡ 0 → Found x
   pub written : numberOf (decisionOf x .answer) ≡ 0 → Written x w
   pub readBack : numberOf (decisionOf x .answer) ≡ 0 → ReadBack x w
   pub placing : Reached x → Placing x

@@ -13,7 +13,7 @@ use Rattle.decision.specs.Decided.{decidedBy}
 use Rattle.decision.specs.Decision.{answerOf, decisionOf}
 use Rattle.loader.specs.LoadLaws.{loads}
 use Rattle.theorems.specs.Promises.{Promised}
-use Rattle.theorems.specs.Answers.{answered}
+use Rattle.theorems.specs.Answers.{answered, searched, found}
 use Rattle.theorems.specs.Bytes.{written-bytes}
 use Rattle.theorems.specs.Blocks.{read-back}
 use Rattle.theorems.specs.Places.{placing, apart}
@@ -26,6 +26,8 @@ pub promised : (x : Lent) (w : List ℕ) → length w ≡ x .size → Promised x
 promised x w n =
     record {
       answered = answered x;
+      searched = searched x;
+      found = λ e. found x (loads x (load-is x e));
       written = λ e. written-bytes x (loads x (load-is x e)) w n (load-is x e);
       readBack = λ e. read-back x (loads x (load-is x e)) w n (load-is x e);
       placing = placing x;

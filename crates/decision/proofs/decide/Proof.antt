@@ -18,8 +18,9 @@ use Rattle.memory_map.specs.Pairs.{mapOf}
 use Rattle.information.specs.Information.{stringLengths, blockLength}
 use Rattle.decision.specs.Lent.{Lent, layoutIn, kernelIn, lineIn, boardIn, blockIn}
 use Rattle.decision.specs.Decided.{memoryDecision}
+use Rattle.decision.specs.Decision.{lentChecks}
 use Rattle.decision.specs.PlacedLaws.{Prepared}
-use Rattle.decision.specs.DecisionLaws.{lentChecks, passed, prepared, block-small, verdict-is, layout-known, map-known, kernel-known, decided-refused, board-is, block-is, prepared-is, decision-is}
+use Rattle.decision.specs.DecisionLaws.{passed, prepared, block-small, verdict-is, layout-known, map-known, kernel-known, decided-refused, board-is, block-is, prepared-is, decision-is}
 use borrow.Author.Needs.{needs}
 use Rattle.decision.proofs.decide.Statement.{statement}
 use Rattle.decision.proofs.decide.Tie as tie

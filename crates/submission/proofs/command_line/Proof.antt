@@ -1,18 +1,17 @@
--- `submission::command_line` meets its contract: an answer other than 0 empties the line, and then the operator's goes first.
+-- `submission::command_line` meets its contract: a refusal empties the line, and then the operator's goes first.
 -- Assumes nothing.
 use mathlib.Core.Path.{_≡_, ap, sym, _∙_}
-use mathlib.Core.Bool.{true, false}
-use mathlib.Core.Logic.{⊎-elim}
+use mathlib.Core.Bool.{Bool, true}
 use mathlib.Core.List.{List}
 use Prim.Native.Nat.{ℕ}
 use native.Mathlib.Omega.{arith}
 use borrow.Author.Needs.{needs}
-use Rattle.answer.specs.Answer.{numberOf}
+use borrow.Author.Tests.{not-true, not-false}
+use Rattle.answer.specs.Answer.{isLoad}
+use Rattle.answer.specs.Order.{passes-is}
 use Rattle.answer.specs.declared.Answer.{Answer}
 use Rattle.answer.specs.declared.Answer.the-variants.{Load}
-use Rattle.laws.specs.TestLaws.{true-or-false}
-use Rattle.laws.specs.Checks.{Check, firstOf, passes}
-use Rattle.laws.specs.CheckLaws.{passes-on}
+use Rattle.laws.specs.Checks.{firstOf, passes}
 use Rattle.submission.specs.Format.{lineOf, layoutOf, bytesOf}
 use Rattle.submission.specs.FormatLaws.{layout-line}
 use Rattle.submission.specs.Rules.{submissionChecks, parsed}
@@ -24,30 +23,25 @@ use Rattle.submission.specs.declared.Parsed.{Parsed}
 use Rattle.submission.proofs.command_line.Statement.{statement}
 use Rattle.submission.proofs.command_line.Tie as tie
 
--- the number n of the answer that a chain gives tells whether a check applies
-module _ (ks : List (Check Answer)) (n : ℕ) (a : Answer) (e : a ≡ firstOf ks Load) (m : n ≡ numberOf a) where
-  refused : (n ≡ 0 → ⊥) → passes ks ≡ false
-  refused h = ⊎-elim (λ t. absurd (h (m ∙ ap numberOf (e ∙ passes-on ks Load t)))) (λ f. f) (true-or-false (passes ks))
+-- whether an answer is a load tells whether no check applies
+of-submission : (s : List ℕ) (r : Parsed) (b : Bool) → r ≡ parsed s → b ≡ isLoad (r .answer) → passes (submissionChecks s) ≡ b
+unfolding parsed
+of-submission s r b e f = sym (passes-is (submissionChecks s) (submission-refuses s)) ∙ ap (λ (p : Parsed). isLoad (p .answer)) (sym e) ∙ sym f
 
-  passed : (passes ks ≡ false → numberOf (firstOf ks Load) ≡ 0 → ⊥) → n ≡ 0 → passes ks ≡ true
-  passed r z = ⊎-elim (λ t. t) (λ f. absurd (r f (ap numberOf (sym e) ∙ sym m ∙ z))) (true-or-false (passes ks))
+of-operator : (line : List ℕ) (a : Answer) (b : Bool) → a ≡ firstOf (operatorChecks line) Load → b ≡ isLoad a → passes (operatorChecks line) ≡ b
+of-operator line a b e f = sym (passes-is (operatorChecks line) (operator-refuses line)) ∙ ap isLoad (sym e) ∙ sym f
 
-module _ (s : List ℕ) (r : Parsed) (e : r ≡ parsed s) where
-  answer-is : r .answer ≡ firstOf (submissionChecks s) Load
-  unfolding parsed
-  answer-is = ap (λ (p : Parsed). p .answer) e
-
-  -- the line of the layout that was read
-  line-is : passes (submissionChecks s) ≡ true → (text : List ℕ) → text ≡ bytesOf s (r .layout .line) → text ≡ bytesOf s (lineOf s)
-  line-is h text q =
-      let l : r .layout ≡ layoutOf s = ap (λ (p : Parsed). p .layout) e ∙ parsed-layout s h in
-      q ∙ ap (λ (m : Layout). bytesOf s (m .line)) l ∙ ap (bytesOf s) (layout-line s)
+-- the line of the layout that was read
+line-is : (s : List ℕ) (r : Parsed) → r ≡ parsed s → passes (submissionChecks s) ≡ true → (text : List ℕ) → text ≡ bytesOf s (r .layout .line) → text ≡ bytesOf s (lineOf s)
+line-is s r e h text q =
+    let l : r .layout ≡ layoutOf s = ap (λ (p : Parsed). p .layout) e ∙ parsed-layout s h in
+    q ∙ ap (λ (m : Layout). bytesOf s (m .line)) l ∙ ap (bytesOf s) (layout-line s)
 
 parse-requires : tie.Need-parse-requires
 parse-requires c κs = search needs
 
-number-requires : tie.Need-number-requires
-number-requires c κs = search needs
+is-load-requires : tie.Need-is-load-requires
+is-load-requires c κs = search needs
 
 slice-aggregate-result : tie.Need-slice-aggregate-result
 slice-aggregate-result c = search needs
@@ -57,14 +51,14 @@ returns c =
     let judged = c .before .before in
     let a = judged .before .before .before .before .args in
     let read = judged .before .parse in
-    let h = refused (submissionChecks (a .submission .now)) (judged .number .result) (read .result .answer) (answer-is (a .submission .now) (read .result) (read .ensures)) (judged .number .ensures) (c .before .if1 .taken) in
+    let h = of-submission (a .submission .now) (read .result) (judged .is-load .result) (read .ensures) (judged .is-load .ensures) ∙ not-true _ (c .before .if1 .taken) in
     sym (line-refused-submission (a .operator .now) (a .submission .now) h)
 
 check-operator-requires : tie.Need-check-operator-requires
 check-operator-requires c κs = search needs
 
-number-requires-2 : tie.Need-number-requires-2
-number-requires-2 c κs = search needs
+is-load-requires-2 : tie.Need-is-load-requires-2
+is-load-requires-2 c κs = search needs
 
 slice-aggregate-result-2 : tie.Need-slice-aggregate-result-2
 slice-aggregate-result-2 c = search needs
@@ -73,7 +67,7 @@ returns-2 : tie.Need-returns-2
 returns-2 c =
     let judged = c .before .before in
     let a = judged .before .before .before .before .before .before .before .args in
-    let h = refused (operatorChecks (a .operator .now)) (judged .number2 .result) (judged .before .check-operator .result) (judged .before .check-operator .ensures) (judged .number2 .ensures) (c .before .if2 .taken) in
+    let h = of-operator (a .operator .now) (judged .before .check-operator .result) (judged .is-load2 .result) (judged .before .check-operator .ensures) (judged .is-load2 .ensures) ∙ not-true _ (c .before .if2 .taken) in
     sym (line-refused-operator (a .operator .now) (a .submission .now) h)
 
 -- neither is refused
@@ -85,8 +79,8 @@ both c =
     let parsed-now = judged .before .before .before in
     let a = parsed-now .before .before .before .before .args in
     let read = parsed-now .before .parse in (
-      passed (submissionChecks (a .submission .now)) (parsed-now .number .result) (read .result .answer) (answer-is (a .submission .now) (read .result) (read .ensures)) (parsed-now .number .ensures) (submission-refuses (a .submission .now)) (judged .before .before .if1 .left),
-      passed (operatorChecks (a .operator .now)) (judged .number2 .result) (judged .before .check-operator .result) (judged .before .check-operator .ensures) (judged .number2 .ensures) (operator-refuses (a .operator .now)) (c .if2 .left),
+      of-submission (a .submission .now) (read .result) (parsed-now .is-load .result) (read .ensures) (parsed-now .is-load .ensures) ∙ not-false _ (judged .before .before .if1 .left),
+      of-operator (a .operator .now) (judged .before .check-operator .result) (judged .is-load2 .result) (judged .before .check-operator .ensures) (judged .is-load2 .ensures) ∙ not-false _ (c .if2 .left),
     )
 
 returns-3 : tie.Need-returns-3
@@ -111,11 +105,11 @@ command-line-spec =
     tie.close
     (tie.spec
     parse-requires
-    number-requires
+    is-load-requires
     slice-aggregate-result
     returns
     check-operator-requires
-    number-requires-2
+    is-load-requires-2
     slice-aggregate-result-2
     returns-2
     returns-3

@@ -3,6 +3,7 @@
 use mathlib.Core.Path.{_≡_, sym, ap, _∙_}
 use Prim.Native.Nat.{ℕ, _+_, _-_, _≤_}
 use native.Mathlib.Omega.{arith}
+use lib.ListN.{replicate}
 use Rattle.laws.specs.Table.{table}
 use Rattle.laws.specs.TableLaws.{table-none, table-more}
 use Rattle.placement.specs.Free.{maxSpans}
@@ -21,8 +22,11 @@ Inv-loop kernel list₀ i₀ list i = (i ≤ kernel .count) × (list ≡ table (
 abbrev μ-loop : tie.MeasureT-loop
 μ-loop kernel list₀ i₀ list i = kernel .count - i
 
+none-requires : tie.Need-none-requires Inv-loop μ-loop
+none-requires c κs = search needs
+
 loop-holds : tie.Need-loop-holds Inv-loop μ-loop
-loop-holds c = (search needs, table-none _ maxSpans noSpan)
+loop-holds c = (search needs, ap (replicate maxSpans) (c .none .ensures) ∙ table-none _ maxSpans noSpan)
 
 extent-requires : tie.Need-extent-requires Inv-loop μ-loop
 extent-requires c κs = search needs
@@ -42,11 +46,11 @@ loop-less c = search needs
 loop-again : tie.Need-loop-again Inv-loop μ-loop
 loop-again c =
     let at-loop = c .before .before .before in
-    (search needs, cc (table-more (extentNo (at-loop .before .args .kernel)) maxSpans noSpan (at-loop .loop .i) (search needs)))
+    (search needs, cc (table-more (extentNo (at-loop .before .before .args .kernel)) maxSpans noSpan (at-loop .loop .i) (search needs)))
 
 returns : tie.Need-returns Inv-loop μ-loop
 unfolding extentsOf
-returns c = let e : c .before .before .loop .i ≡ c .before .before .before .args .kernel .count = omega arith in cc
+returns c = let e : c .before .before .loop .i ≡ c .before .before .before .before .args .kernel .count = omega arith in cc
 
 pub extents-spec : {M : Type 1} → statement M
 extents-spec =
@@ -54,6 +58,7 @@ extents-spec =
     (tie.spec
     Inv-loop
     μ-loop
+    none-requires
     loop-holds
     extent-requires
     mul-list

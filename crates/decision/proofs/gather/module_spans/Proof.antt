@@ -3,6 +3,7 @@
 use mathlib.Core.Path.{_≡_, sym, ap, _∙_}
 use Prim.Native.Nat.{ℕ, _+_, _-_, _≤_}
 use native.Mathlib.Omega.{arith}
+use lib.ListN.{replicate}
 use Rattle.laws.specs.Table.{table}
 use Rattle.laws.specs.TableLaws.{table-none, table-more}
 use Rattle.submission.specs.Format.{moduleLimit}
@@ -21,8 +22,11 @@ Inv-loop from count spans list₀ i₀ list i = (i ≤ count) × (list ≡ table
 abbrev μ-loop : tie.MeasureT-loop
 μ-loop from count spans list₀ i₀ list i = count - i
 
+none-requires : tie.Need-none-requires Inv-loop μ-loop
+none-requires c κs = search needs
+
 loop-holds : tie.Need-loop-holds Inv-loop μ-loop
-loop-holds c = (search needs, table-none _ moduleLimit noSpan)
+loop-holds c = (search needs, ap (replicate moduleLimit) (c .none .ensures) ∙ table-none _ moduleLimit noSpan)
 
 add-list : tie.Need-add-list Inv-loop μ-loop
 add-list c = search needs
@@ -48,12 +52,12 @@ loop-less c = search needs
 loop-again : tie.Need-loop-again Inv-loop μ-loop
 loop-again c =
     let at-loop = c .before .before in
-    let start = at-loop .before .args in
+    let start = at-loop .before .before .args in
     (search needs, cc (table-more (λ j. spanAt (start .t1) (start .from + j)) moduleLimit noSpan (at-loop .loop .i) (search needs)))
 
 returns : tie.Need-returns Inv-loop μ-loop
 unfolding moduleSpans
-returns c = let e : c .before .loop .i ≡ c .before .before .args .count = omega arith in cc
+returns c = let e : c .before .loop .i ≡ c .before .before .before .args .count = omega arith in cc
 
 pub module-spans-spec : {M : Type 1} → statement M
 module-spans-spec =
@@ -61,6 +65,7 @@ module-spans-spec =
     (tie.spec
     Inv-loop
     μ-loop
+    none-requires
     loop-holds
     add-list
     mul-list

@@ -1,18 +1,19 @@
 -- `memory_map::parse::parse` meets its contract. The loop's invariant: the pairs before `at` are read, and keep their rules.
 -- Assumes nothing.
-use mathlib.Core.Path.{_≡_, refl, sym, _∙_}
+use mathlib.Core.Path.{_≡_, refl, ap, sym, _∙_}
 use mathlib.Core.Bool.{true, false, _||_}
 use mathlib.Core.List.{List}
 use Prim.Native.Nat.{ℕ, _+_, _-_, _≤_, _<_}
 use native.Mathlib.Numerals.{add-one}
 use native.Mathlib.Omega.{arith}
-use lib.ListN.{length, set, replicate}
+use lib.ListN.{length, set}
 use Rattle.laws.specs.Table.{listed, table}
 use Rattle.laws.specs.TableLaws.{table-more}
 use Rattle.answer.specs.declared.Answer.the-variants.{Load}
 use Rattle.memory_map.specs.declared.Pair.{Pair}
+use Rattle.memory_map.specs.declared.MemMap.{MemMap}
 use Rattle.memory_map.specs.Usable.{maxPairs, noPair}
-use Rattle.memory_map.specs.Pairs.{maxBytes, minSize, sizeField, sizeAt, nextAt, pairAt, pairCount, pairOf, small, past, badMap, firstPairs, parsed}
+use Rattle.memory_map.specs.Pairs.{maxBytes, minSize, sizeField, sizeAt, nextAt, pairAt, pairCount, pairOf, small, past, badMap, firstPairs, noMap, parsed}
 use Rattle.memory_map.specs.PairsLaws.{Whole, whole-zero, whole-more, whole-all, unbroken, map-good, empty-bad, long-bad, many-bad, broken-bad, parsed-bad, parsed-good}
 use borrow.Author.Needs.{needs}
 use Rattle.memory_map.proofs.parse.parse.Statement.{statement}
@@ -26,9 +27,9 @@ record Reading (m : List ℕ) (pairs : List Pair) (n at : ℕ) : Type 0 where
   read : pairs ≡ table (λ i. pairOf m (pairAt m i)) n maxPairs noPair
   whole : Whole m n
 
-none-read : (m : List ℕ) → Reading m (replicate maxPairs noPair) 0 0
+none-read : (m : List ℕ) (e : MemMap) → e ≡ noMap → Reading m (e .pairs) 0 0
 unfolding pairAt listed
-none-read m = record { inside = omega arith; few = omega arith; place = refl; read = refl; whole = whole-zero m }
+none-read m e h = record { inside = omega arith; few = omega arith; place = refl; read = ap (λ (p : MemMap). p .pairs) h; whole = whole-zero m }
 
 module _ (m : List ℕ) (pairs : List Pair) (n at : ℕ) (r : Reading m pairs n at) where
   -- a pair begins past the last that has room, or is broken
@@ -68,10 +69,10 @@ abbrev μ-loop : tie.MeasureT-loop
 μ-loop m pairs₀ count₀ at₀ pairs count at = length m - at
 
 -- the pair at the loop's offset is whole
-whole-here : (c : tie.Else4 Inv-loop μ-loop) → c .before .before .before .before .loop .at + (minSize + sizeField) ≤ length (c .before .before .before .before .before .before .before .before .args .m .now)
+whole-here : (c : tie.Else4 Inv-loop μ-loop) → c .before .before .before .before .loop .at + (minSize + sizeField) ≤ length (c .before .before .before .before .before .before .before .before .before .before .args .m .now)
 unfolding nextAt
 whole-here c =
-    let u = unbroken (c .before .before .before .before .before .before .before .before .args .m .now) (c .before .before .before .before .loop .at) (sym (c .before .broken .ensures) ∙ c .if4 .left) in
+    let u = unbroken (c .before .before .before .before .before .before .before .before .before .before .args .m .now) (c .before .before .before .before .loop .at) (sym (c .before .broken .ensures) ∙ c .if4 .left) in
     omega arith
 
 refused-requires : tie.Need-refused-requires Inv-loop μ-loop
@@ -86,8 +87,11 @@ refused-requires-2 c κs = search needs
 returns-2 : tie.Need-returns-2 Inv-loop μ-loop
 returns-2 c = cc (parsed-bad _ (long-bad _ (c .before .if2 .taken)))
 
+no-map-requires : tie.Need-no-map-requires Inv-loop μ-loop
+no-map-requires c κs = search needs
+
 loop-holds : tie.Need-loop-holds Inv-loop μ-loop
-loop-holds c = none-read _
+loop-holds c = none-read _ _ (c .before .no-map .ensures)
 
 refused-requires-3 : tie.Need-refused-requires-3 Inv-loop μ-loop
 refused-requires-3 c κs = search needs
@@ -141,7 +145,7 @@ loop-again c =
     one-more _ _ _ _ (at-loop .loop .inv) (c .before .before .before .before .if3 .left) (sym (b .ensures) ∙ c .before .before .if4 .left) _ (c .before .read-pair .ensures) _ (omega arith)
 
 returns-5 : tie.Need-returns-5 Inv-loop μ-loop
-returns-5 c = all-read _ _ _ _ (c .before .loop .inv) (c .before .before .before .if1 .left) (c .before .before .if2 .left) (c .loop-test .left)
+returns-5 c = all-read _ _ _ _ (c .before .loop .inv) (c .before .before .before .before .before .if1 .left) (c .before .before .before .before .if2 .left) (c .loop-test .left)
 
 pub parse-spec : {M : Type 1} → statement M
 parse-spec =
@@ -153,6 +157,7 @@ parse-spec =
     returns
     refused-requires-2
     returns-2
+    no-map-requires
     loop-holds
     refused-requires-3
     returns-3

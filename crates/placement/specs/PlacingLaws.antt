@@ -21,8 +21,8 @@ use Rattle.placement.specs.declared.Place.{Place}
 use Rattle.placement.specs.declared.Place.the-variants.{At, NoRoom}
 use Rattle.placement.specs.declared.Placed.{Placed}
 use Rattle.placement.specs.Free.{spanAt}
-use Rattle.placement.specs.Demand.{Suits, Stands, InOrder, upTo}
-use Rattle.placement.specs.FreeLaws.{Holds}
+use Rattle.placement.specs.Placing.{Suits, Stands, InOrder, upTo}
+use Rattle.address.specs.InsideLaws.{Holds}
 use Rattle.placement.specs.Lowest.{lowestPlace}
 use Rattle.placement.specs.LowestLaws.{place-lowest, no-room}
 use Rattle.placement.specs.Order.{itemAt, spanOf, withSpan, placedFrom, placeItems}

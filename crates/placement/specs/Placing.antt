@@ -4,7 +4,7 @@
 --     InOrder    what placing items in order leaves
 -- LowestLaws    place-lowest: a place is given exactly where it suits and no lower address does;
 --               no-room: no room is answered exactly where no address suits
--- DemandLaws    in-order: placing by `placeItems` leaves what InOrder says; placed-open: each item lies in usable memory
+-- PlacingLaws   in-order: placing by `placeItems` leaves what InOrder says; placed-open: each item lies in usable memory
 --               inside the window
 -- Assumes nothing.
 use mathlib.Core.Path.{_≡_}
@@ -17,7 +17,7 @@ use Rattle.placement.specs.declared.Item.{Item}
 use Rattle.placement.specs.declared.Items.{Items}
 use Rattle.placement.specs.declared.Placed.{Placed}
 use Rattle.placement.specs.Free.{spanAt}
-use Rattle.placement.specs.FreeLaws.{Holds}
+use Rattle.address.specs.InsideLaws.{Holds}
 use Rattle.placement.specs.Order.{itemAt}
 
 -- the item q may be placed at a: from the floor up, on its boundary, each of its addresses open and in no span taken
