@@ -2,9 +2,9 @@
 --     modelIn, modelDecision    the places and the decision, computed
 --     decision-computes         it is the decision
 -- Assumes nothing.
-use mathlib.Core.Path.{_≡_, refl, sym, ap, _∙_}
-use mathlib.Core.List.{List, _++_}
-use Prim.Native.Nat.{ℕ, _+_, _≤_}
+use mathlib.Core.Path.{_≡_, refl, ap, _∙_}
+use mathlib.Core.List.{_++_}
+use Prim.Native.Nat.{_+_, _≤_}
 use Rattle.address.specs.Address.{page}
 use Rattle.memory_map.specs.Usable.{limit}
 use Rattle.placement.specs.declared.Placed.{Placed}

@@ -2,16 +2,15 @@
 --     stage-refuses    where a stage refuses, its answer is the decision's, and the plan is zeros
 --     stage-passes     where a stage passes, the decision is the next stage's
 -- Assumes nothing.
-use mathlib.Core.Path.{_≡_, refl, sym, ap, _∙_}
-use mathlib.Core.Bool.{Bool, true, false, cond}
-use mathlib.Core.List.{List, [], _∷_, _++_}
+use mathlib.Core.Path.{_≡_}
+use mathlib.Core.Bool.{true, false}
+use mathlib.Core.List.{List, _++_}
 use Rattle.laws.specs.Checks.{Check, firstOf}
 use Rattle.answer.specs.Answer.{isLoad}
 use Rattle.answer.specs.Order.{refuses, chain-append, or-else-first, or-else-second}
 use Rattle.answer.specs.declared.Answer.{Answer}
 use Rattle.answer.specs.declared.Answer.the-variants.{Load}
 use Rattle.decision.specs.declared.Plan.{Plan}
-use Rattle.decision.specs.declared.Decision.{Decision}
 use Rattle.decision.specs.Decided.{noPlan, decidedBy}
 
 module _ (ks ls : List (Check Answer)) (p : Plan) (r : refuses ks ≡ true) where

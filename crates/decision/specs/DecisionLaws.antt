@@ -8,15 +8,12 @@
 --     board-is, block-is, prepared-is, decision-is         the same as the calls hand it over
 -- Assumes nothing.
 use mathlib.Core.Path.{_≡_, refl, sym, ap, _∙_}
-use mathlib.Core.Bool.{Bool, true, false}
+use mathlib.Core.Bool.{true, false}
 use mathlib.Core.List.{List, _++_, append-assoc}
-use mathlib.Core.Logic.{⊎-elim}
-use Prim.Native.Nat.{ℕ, zero, suc, _+_, _*_, _^_, _≤_, _<_}
+use Prim.Native.Nat.{ℕ, _+_, _^_, _≤_, _<_}
 use native.Mathlib.Omega.{arith}
-use borrow.Author.Tests.{ltb-false, not-true}
-use lib.ListN.{length, getD}
-use Rattle.laws.specs.Checks.{Check, firstOf, passes}
-use Rattle.laws.specs.TestLaws.{and-left}
+use lib.ListN.{length}
+use Rattle.laws.specs.Checks.{firstOf, passes}
 use Rattle.address.specs.Address.{top}
 use Rattle.answer.specs.Answer.{isLoad, orElse}
 use Rattle.answer.specs.Order.{refuses, chain-append, or-else-same, or-else-load, passes-is, load-is}
@@ -25,7 +22,7 @@ use Rattle.answer.specs.declared.Answer.the-variants.{Load}
 use Rattle.submission.specs.declared.Layout.{Layout}
 use Rattle.submission.specs.declared.Module.{Module}
 use Rattle.submission.specs.declared.Parsed.{Parsed}
-use Rattle.submission.specs.Format.{moduleCount, moduleLimit, dataLength, stringLength, layoutOf, bytesOf, moduleNo}
+use Rattle.submission.specs.Format.{moduleCount, moduleLimit, bytesOf, moduleNo}
 use Rattle.submission.specs.FormatLaws.{layout-count, module-at}
 use Rattle.submission.specs.Rules.{submissionChecks, lineLimit, stringLimit, parsed}
 use Rattle.submission.specs.RuleLaws.{Accepted, accepted, submission-refuses, parsed-layout}
@@ -48,7 +45,7 @@ use Rattle.image.specs.JudgedLaws.{accepted as accepted-image}
 use Rattle.information.specs.Information.{stringLengths, blockLength}
 use Rattle.information.specs.WritingLaws.{block-bound}
 use Rattle.decision.specs.Lent.{Lent, layoutIn, imageIn, kernelIn, lineIn, boardIn, blockIn}
-use Rattle.decision.specs.Decided.{noPlan, decidedBy, memoryChecks, memoryDecision}
+use Rattle.decision.specs.Decided.{noPlan, memoryChecks, memoryDecision}
 use Rattle.decision.specs.DecidedLaws.{stage-refuses, stage-passes}
 use Rattle.decision.specs.Decision.{lentChecks, checks, decisionOf}
 use Rattle.decision.specs.PlacedLaws.{Prepared}

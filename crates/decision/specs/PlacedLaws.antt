@@ -5,8 +5,8 @@
 --     in-order           the placing promise for the items of a load, beside the kernel's extents
 --     span-below         a placed item begins below 2^32
 -- Assumes nothing.
-use mathlib.Core.Path.{_≡_, refl, sym, ap, _∙_}
-use mathlib.Core.Bool.{Bool, true, false, cond}
+use mathlib.Core.Path.{_≡_}
+use mathlib.Core.Bool.{Bool, true, false}
 use mathlib.Core.Logic.{⊎-elim}
 use Prim.Native.Nat.{ℕ, _+_, _≤_, _<_, _^_}
 use native.Mathlib.Omega.{arith}
@@ -14,7 +14,7 @@ use borrow.Author.Tests.{lt-ltb, le-ltb}
 use lib.ListN.{length}
 use Rattle.laws.specs.TestLaws.{lt-or-le}
 use Rattle.laws.specs.TableLaws.{length-table, table-at}
-use Rattle.address.specs.Address.{page, boundaryOf, noSpan}
+use Rattle.address.specs.Address.{boundaryOf, noSpan}
 use Rattle.submission.specs.declared.Layout.{Layout}
 use Rattle.submission.specs.Format.{moduleLimit, moduleNo}
 use Rattle.image.specs.declared.Kernel.{Kernel}
@@ -22,12 +22,10 @@ use Rattle.board.specs.declared.Board.{Board}
 use Rattle.board.specs.Open.{openAt, Checked}
 use Rattle.board.specs.OpenLaws.{open-below}
 use Rattle.placement.specs.declared.Item.{Item}
-use Rattle.placement.specs.declared.Items.{Items}
-use Rattle.placement.specs.declared.Spans.{Spans}
 use Rattle.placement.specs.Free.{maxSpans, spanAt}
 use Rattle.placement.specs.Order.{maxItems, itemAt, noItem}
 use Rattle.placement.specs.Ready.{Bounded, ReadyItems}
-use Rattle.placement.specs.Placing.{InOrder, Stands}
+use Rattle.placement.specs.Placing.{InOrder}
 use Rattle.placement.specs.PlacingLaws.{board-in-order}
 use Rattle.image.specs.Judged.{segmentLimit}
 use Rattle.decision.specs.Gather.{extentNo, extentsOf, itemNo, itemsOf}

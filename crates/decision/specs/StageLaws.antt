@@ -2,16 +2,13 @@
 --     kernel-refuses, kernel-passed, all-placed                   when no check of a stage applies
 --     decided-closed, decided-no-room, decided-load               the decision on memory in each case
 -- Assumes nothing.
-use mathlib.Core.Path.{_≡_, refl, sym, ap, _∙_}
-use mathlib.Core.Bool.{Bool, true, false, cond, not, false≢true}
-use mathlib.Core.List.{List, [], _∷_, _++_, append-nil}
-use mathlib.Core.Logic.{⊎-elim}
-use Prim.Native.Nat.{ℕ, _+_, _≤_, _<_}
-use native.Mathlib.Omega.{arith}
+use mathlib.Core.Path.{_≡_, refl, sym, ap}
+use mathlib.Core.Bool.{true, false, not}
+use mathlib.Core.List.{[]}
+use Prim.Native.Nat.{ℕ, _+_, _≤_}
 use borrow.Author.Tests.{ltb-false, not-false}
 use lib.Dec.{ltb}
-use Rattle.laws.specs.Checks.{Check, firstOf}
-use Rattle.laws.specs.TestLaws.{lt-or-le, true-or-false}
+use Rattle.laws.specs.Checks.{firstOf}
 use Rattle.answer.specs.Answer.{isLoad}
 use Rattle.answer.specs.Order.{refuses, check-passed, load-is}
 use Rattle.answer.specs.declared.Answer.{Answer}
@@ -24,7 +21,6 @@ use Rattle.placement.specs.declared.Items.{Items}
 use Rattle.placement.specs.declared.Spans.{Spans}
 use Rattle.placement.specs.declared.Placed.{Placed}
 use Rattle.placement.specs.Order.{placeItems}
-use Rattle.decision.specs.declared.Decision.{Decision}
 use Rattle.decision.specs.Gather.{extentsOf, itemsOf}
 use Rattle.decision.specs.Decided.{kernelOpen, kernelChecks, roomChecks, noPlan, decidedBy, placedBy, memoryPlan, memoryDecision}
 use Rattle.decision.specs.DecidedLaws.{stage-refuses, stage-passes}

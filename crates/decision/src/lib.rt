@@ -5,7 +5,6 @@ use board::Board;
 use image::Kernel;
 ghost use mathlib.Core.Path.{_≡_};
 ghost use Rattle.answer.specs.Answer.{orElse};
-ghost use Rattle.decision.specs.Lent.{Lent};
 ghost use Rattle.decision.specs.Decision.{decisionOf};
 
 pub mod gather;

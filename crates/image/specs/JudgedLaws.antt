@@ -7,8 +7,8 @@
 --     Calculated, calculated                        its addresses, by the numbers in the header
 --     Small, small                                  how large its addresses are
 -- Assumes nothing.
-use mathlib.Core.Path.{_≡_, refl, sym, _∙_}
-use mathlib.Core.Bool.{Bool, true, false, not, _&&_, false≢true}
+use mathlib.Core.Path.{_≡_, refl, sym}
+use mathlib.Core.Bool.{true, false, not, _&&_, false≢true}
 use mathlib.Core.List.{List, _∷_}
 use Prim.Native.Nat.{ℕ, zero, suc, _+_, _-_, _^_, _≤_, _<_, max}
 use native.Mathlib.Omega.{arith}
@@ -21,7 +21,6 @@ use Rattle.number.specs.Number.{numberAt}
 use Rattle.number.specs.NumberLaws.{Bytes, bytes-drop, number-bound}
 use Rattle.laws.specs.TableLaws.{replicate-at}
 use Rattle.answer.specs.Order.{refuses, check-passed}
-use Rattle.answer.specs.declared.Answer.{Answer}
 use Rattle.answer.specs.declared.Answer.the-variants.{Load, NoHeader, UnknownRequest, NoAddressFields, HeaderCutOff, LoadBeforeImage, NothingToLoad, LoadPastImage, BssBelowLoadEnd, EntryOutsideLoad}
 use Rattle.image.specs.declared.header.Search.{Search}
 use Rattle.image.specs.declared.header.Search.the-variants.{At, Nothing}

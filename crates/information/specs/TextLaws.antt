@@ -7,7 +7,7 @@
 --     strings-more, strings-fewer, strings-room   the strings of a layout
 --     block-length                                the length of a block with the first n strings
 -- Assumes nothing.
-use mathlib.Core.Path.{_≡_, refl, ap, _∙_}
+use mathlib.Core.Path.{_≡_, refl, ap}
 use mathlib.Core.List.{List, [], _∷_, _++_, append-assoc, append-nil, map}
 use Prim.Native.Nat.{ℕ, zero, suc, _+_, _*_, _-_, _≤_, _<_}
 use mathlib.Core.Logic.{⊎-elim}

@@ -7,36 +7,29 @@
 --     module-length, block-length    how long they are
 -- Assumes nothing.
 use mathlib.Core.Path.{_≡_, refl, sym, ap, _∙_}
-use mathlib.Core.Bool.{Bool, true, false}
-use mathlib.Core.List.{List}
+use mathlib.Core.Bool.{true}
 use mathlib.Core.Logic.{⊎-elim}
-use Prim.Native.Nat.{ℕ, _+_, _-_, _^_, _≤_, _<_}
+use Prim.Native.Nat.{ℕ, _+_, _-_, _≤_, _<_}
 use native.Mathlib.Omega.{arith}
-use borrow.Author.Tests.{not-true, not-false}
-use lib.ListN.{length, getD}
-use Rattle.laws.specs.Checks.{firstOf}
-use Rattle.laws.specs.Tests.{allFrom}
+use lib.ListN.{length}
 use Rattle.laws.specs.TestLaws.{all-elim, lt-or-le}
-use Rattle.laws.specs.TableLaws.{table-at, length-table}
-use Rattle.address.specs.Address.{floor, top, noSpan, spanNo}
+use Rattle.laws.specs.TableLaws.{table-at}
+use Rattle.address.specs.Address.{top, noSpan, spanNo}
 use Rattle.address.specs.declared.Span.{Span}
 use Rattle.answer.specs.Answer.{isLoad}
 use Rattle.answer.specs.Order.{chain-append, or-else-load}
-use Rattle.answer.specs.declared.Answer.the-variants.{Load}
 use Rattle.submission.specs.Format.{moduleLimit, moduleNo}
-use Rattle.image.specs.JudgedLaws.{segment, accepted}
-use Rattle.board.specs.declared.Board.{Board}
+use Rattle.image.specs.JudgedLaws.{accepted}
 use Rattle.board.specs.Open.{openAt}
 use Rattle.board.specs.OpenLaws.{open-is}
 use Rattle.placement.specs.declared.Item.{Item}
-use Rattle.placement.specs.declared.Spans.{Spans}
 use Rattle.placement.specs.Free.{maxSpans, spanAt}
 use Rattle.address.specs.InsideLaws.{Holds}
 use Rattle.placement.specs.Order.{itemAt}
 use Rattle.placement.specs.Placing.{InOrder, Stands}
 use Rattle.decision.specs.Lent.{Lent, layoutIn, imageIn, kernelIn, boardIn, blockIn}
 use Rattle.decision.specs.Gather.{extentNo, extentsOf, itemsOf, moduleSpans}
-use Rattle.decision.specs.Decided.{extentOpen, kernelOpen, kernelChecks, roomChecks, placedBy, planOf}
+use Rattle.decision.specs.Decided.{extentOpen, kernelOpen, kernelChecks, planOf}
 use Rattle.decision.specs.Decision.{lentChecks, checks, answerOf, placedIn, planIn}
 use Rattle.decision.specs.DecisionLaws.{lent-refuses, Passed, passed, prepared}
 use Rattle.decision.specs.PlacedLaws.{item-at, item-some, item-module, item-block, in-order}

@@ -9,7 +9,7 @@ use mathlib.Core.Bool.{true, false}
 use mathlib.Core.List.{List, [], _∷_, _++_}
 use Prim.Native.Nat.{ℕ, _+_, _-_, _^_, _≤_, _<_}
 use native.Mathlib.Omega.{arith}
-use lib.ListN.{length, getD}
+use lib.ListN.{length}
 use Rattle.laws.specs.Table.{listed}
 use Rattle.memory.specs.Patched.{patched}
 use Rattle.memory.specs.Writes.{written}
@@ -18,9 +18,8 @@ use Rattle.address.specs.declared.Span.{Span}
 use Rattle.address.specs.Address.{spanNo}
 use Rattle.answer.specs.Answer.{isLoad}
 use Rattle.submission.specs.declared.Layout.{Layout}
-use Rattle.submission.specs.declared.Module.{Module}
 use Rattle.submission.specs.declared.Parsed.{Parsed}
-use Rattle.submission.specs.Format.{moduleLimit, moduleCount, bytesOf, moduleNo}
+use Rattle.submission.specs.Format.{moduleLimit, moduleCount, bytesOf}
 use Rattle.submission.specs.FormatLaws.{layout-count, module-at}
 use Rattle.submission.specs.Rules.{parsed}
 use Rattle.submission.specs.RuleLaws.{parsed-layout, string-inside}
@@ -28,13 +27,13 @@ use Rattle.information.specs.Information.{blockOf}
 use Rattle.information.specs.Writing.{SpansLow, StringsIn, Room}
 use Rattle.image.specs.Judged.{segmentLimit}
 use Rattle.decision.specs.declared.Plan.{Plan}
-use Rattle.decision.specs.Lent.{Lent, layoutIn, imageIn, kernelIn, lineIn, boardIn, blockIn}
+use Rattle.decision.specs.Lent.{Lent, layoutIn, kernelIn, lineIn}
 use Rattle.decision.specs.declared.Decision.{Decision}
 use Rattle.decision.specs.Decided.{planOf, decidedBy}
 use Rattle.decision.specs.Decision.{answerOf, planIn, decisionOf}
 use Rattle.decision.specs.DecisionLaws.{prepared}
 use Rattle.loader.specs.Memory.{segmentWrite, moduleWrite, contentsFor, contentsIn, blockWrite, segmentWrites, moduleWrites, writesOf, memoryAfter, Loaded}
-use Rattle.loader.specs.LoadLaws.{Loads, spanIn, countIn, span-inside, module-span, block-span, block-length}
+use Rattle.loader.specs.LoadLaws.{Loads, spanIn, span-inside, module-span, block-span, block-length}
 
 module _ (x : Lent) (h : Loads x) where
   module-inside : (i : ℕ) → i < layoutIn x .count → (spanNo (planIn x .modules) i .start .0 < 2 ^ 32) × (spanNo (planIn x .modules) i .end .0 < 2 ^ 32)

@@ -2,7 +2,6 @@
 use decision::Decision;
 ghost use mathlib.Core.Path.{_≡_};
 ghost use lib.ListN.{length};
-ghost use Rattle.decision.specs.Lent.{Lent};
 ghost use Rattle.decision.specs.Decision.{decisionOf};
 ghost use Rattle.loader.specs.Memory.{memoryAfter};
 

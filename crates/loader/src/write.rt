@@ -17,7 +17,6 @@ ghost use Rattle.submission.specs.CommandLine.{commandLine};
 ghost use Rattle.information.specs.Information.{blockOf};
 ghost use Rattle.information.specs.Writing.{SpansLow, StringsIn, Room};
 ghost use Rattle.image.specs.Judged.{segmentLimit};
-ghost use Rattle.decision.specs.Lent.{Lent};
 ghost use Rattle.loader.specs.Memory.{segmentWrite, moduleWrite, contentsFor, writesOf, Loaded};
 
 // Writes everything of a load: the kernel, the modules, and the information block.

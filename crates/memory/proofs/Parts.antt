@@ -5,7 +5,7 @@ use mathlib.Core.List.{List, [], _∷_, _++_, append-nil}
 use Prim.Native.Nat.{ℕ, _+_, _-_, _≤_, min}
 use native.Mathlib.Nat.{zero-add}
 use native.Mathlib.Omega.{arith}
-use lib.ListN.{length, set, take, drop, replicate, length-take, length-drop, length-replicate, replicate-append-replicate, drop-of-length-le}
+use lib.ListN.{length, set, take, drop, length-take, length-drop, length-replicate, replicate-append-replicate, drop-of-length-le}
 use lib.Seq.{drop-drop, length-take-le, take-length, take-all, take-at}
 use Rattle.memory.specs.Patched.{patched, zeros}
 use Rattle.memory.specs.PatchedLaws.{patched-nil, patched-split, patched-cut, patched-one, patched-append, patched-whole}

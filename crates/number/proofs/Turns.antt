@@ -1,6 +1,6 @@
 -- One turn of each loop: a byte more read, a word more written.
 -- Assumes nothing.
-use mathlib.Core.Path.{_≡_, refl, ap, sym, _∙_}
+use mathlib.Core.Path.{_≡_, refl, ap, _∙_}
 use mathlib.Core.List.{List, [], _∷_, _++_, append-assoc, append-nil}
 use Prim.Native.Nat.{ℕ, zero, suc, _+_, _*_, _-_, _^_, _≤_, _<_}
 use native.Mathlib.Numerals.{add-one}
@@ -10,7 +10,7 @@ use lib.Seq.{length-take-le}
 use Rattle.memory.specs.Patched.{patched}
 use Rattle.memory.specs.PatchedLaws.{patched-append}
 use Rattle.number.specs.Number.{number, numberBytes, wordBytes}
-use Rattle.number.specs.NumberLaws.{number-more, number-bound, number-fits, length-wordBytes, Bytes, bytes-drop}
+use Rattle.number.specs.NumberLaws.{number-more, number-fits, length-wordBytes, Bytes, bytes-drop}
 
 -- the read goes from the highest byte to the lowest; `value` is what the last i of the bytes make
 module _ (s : List ℕ) (at width i value : ℕ) (e : value ≡ number i (drop (at + (width - i)) s)) where

@@ -5,10 +5,10 @@
 --     numberAt-before, numberAt-inside, numberAt-behind      a read before, inside and behind a patched part
 --     word-at                                                reading back one of a row of words
 -- Assumes nothing.
-use mathlib.Core.Path.{_≡_, refl, ap, sym, _∙_}
+use mathlib.Core.Path.{_≡_, refl, ap, _∙_}
 use mathlib.Core.List.{List, [], _∷_, _++_, append-assoc}
 use Prim.Native.Nat.{ℕ, zero, suc, _+_, _*_, _^_, _-_, _/_, _≤_, _<_}
-use native.Mathlib.Nat.{le-trans, suc-add, add-zero}
+use native.Mathlib.Nat.{le-trans}
 use native.Mathlib.Omega.{arith}
 use lib.ListN.{length, take, drop, getD, length-append, length-take, length-drop, drop-of-length-le}
 use lib.Seq.{drop-nil, getD-drop, drop-append-add}

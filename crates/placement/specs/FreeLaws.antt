@@ -5,10 +5,9 @@
 use mathlib.Core.Path.{_≡_, sym, _∙_}
 use mathlib.Core.Bool.{Bool, true, false, not, false≢true}
 use mathlib.Core.Logic.{⊎-elim, _↔_}
-use Prim.Native.Nat.{ℕ, _≤_, _<_}
+use Prim.Native.Nat.{ℕ, _<_}
 use borrow.Author.Tests.{not-true}
 use Rattle.laws.specs.TestLaws.{true-or-false, and-left, and-right, any-none, none-any}
-use Rattle.address.specs.declared.Span.{Span}
 use Rattle.address.specs.Address.{inside}
 use Rattle.address.specs.InsideLaws.{Holds, inside-is}
 use Rattle.placement.specs.declared.Spans.{Spans}

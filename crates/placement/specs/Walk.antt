@@ -6,8 +6,8 @@
 --     tried-found    the item ends at x or before: a is its place
 --     tried-end      nothing is free from x on: there is no room
 -- Assumes nothing.
-use mathlib.Core.Path.{_≡_, sym, _∙_}
-use mathlib.Core.Bool.{Bool, true, false, and-false}
+use mathlib.Core.Path.{_≡_, ap, sym, _∙_}
+use mathlib.Core.Bool.{Bool, true, false, _&&_, and-false}
 use mathlib.Core.Logic.{⊎-elim}
 use Prim.Native.Nat.{ℕ, _+_, _%_, _≤_, _<_}
 use native.Mathlib.Omega.{arith}
@@ -35,7 +35,7 @@ module _ (free : ℕ → Bool) (q : Item) where
   -- an address that is not free keeps the item from each place that would hold it
   not-over : (s y : ℕ) → s ≤ y → y < s + q .length → free y ≡ false → fits free q s ≡ false
   unfolding fits
-  not-over s y l m e = rw (all-not free s (q .length) y l m e, and-false)
+  not-over s y l m e = ap (λ (b : Bool). isMultiple (q .boundary) s && b) (all-not free s (q .length) y l m e) ∙ and-false (isMultiple (q .boundary) s)
 
   not-multiple : (s : ℕ) → (s % q .boundary ≡ 0 → ⊥) → fits free q s ≡ false
   unfolding fits isMultiple

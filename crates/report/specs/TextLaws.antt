@@ -10,7 +10,7 @@ use mathlib.Core.List.{List, [], _∷_, _++_}
 use Prim.Native.Nat.{ℕ, zero, suc, _+_, _*_, _-_, _/_, _%_, _≤_}
 use native.Mathlib.Nat.{add-zero}
 use native.Mathlib.Omega.{arith}
-use lib.ListN.{length, drop, getD, length-append, length-drop}
+use lib.ListN.{length, getD, length-append, length-drop}
 use Rattle.memory.specs.Patched.{patched}
 use Rattle.memory.specs.PatchedLaws.{patched-nil, patched-append}
 use Rattle.viertompu.specs.Rows.{rows}

@@ -12,7 +12,6 @@ use viertompu::NUMBER;
 use viertompu::SEGMENT_WORDS;
 use viertompu::SEGMENTS_AT;
 use viertompu::WORDS;
-ghost use mathlib.Core.Path.{_≡_};
 ghost use Prim.Native.Nat.{_+_, _*_, _≤_, _<_, _^_};
 ghost use lib.ListN.{length};
 ghost use Rattle.submission.specs.Format.{moduleLimit};

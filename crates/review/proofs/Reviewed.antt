@@ -6,7 +6,6 @@ use mathlib.Core.Path.{_≡_, refl}
 use mathlib.Core.List.{List, [], _∷_}
 use Prim.Native.Nat.{ℕ}
 use Rattle.number.specs.Number.{numberBytes}
-use Rattle.decision.specs.Lent.{Lent}
 use Rattle.decision.specs.Decision.{decisionOf}
 use Rattle.viertompu.specs.Words.{planWords}
 use Rattle.report.specs.Text.{Wrote}

@@ -4,18 +4,17 @@
 --     found       the header found and the load addresses, in every load
 -- Assumes nothing.
 use mathlib.Core.Path.{_≡_, refl, sym, ap, _∙_}
-use mathlib.Core.Bool.{Bool, true, false, cond, not, false≢true}
+use mathlib.Core.Bool.{true, false, false≢true}
 use mathlib.Core.List.{List, [], _∷_, map}
-use mathlib.Core.Logic.{_↔_, ⊎-elim}
-use Prim.Native.Nat.{ℕ, zero, suc, _+_, _≤_, _<_}
+use mathlib.Core.Logic.{_↔_}
+use Prim.Native.Nat.{ℕ, zero, suc, _+_, _<_}
 use native.Mathlib.Omega.{arith}
 use borrow.Author.Tests.{ne-eqb}
-use lib.Dec.{eqb}
 use Rattle.laws.specs.Checks.{Check, firstOf}
 use Rattle.laws.specs.TestLaws.{all-intro, all-elim}
 use Rattle.address.specs.InsideLaws.{Holds}
 use Rattle.answer.specs.Answer.{numberOf, itemOf, isLoad}
-use Rattle.answer.specs.Order.{appliesAt, First, numberedFrom, number-given, number-first, none-given, none-applies}
+use Rattle.answer.specs.Order.{First, numberedFrom, number-given, number-first, none-given, none-applies}
 use Rattle.answer.specs.declared.Answer.{Answer}
 use Rattle.answer.specs.declared.Answer.the-variants.{Load, NotASubmission, BadSubmission, BadOperatorLine, WindowPastTop, BadMemoryMap, NoHeader, UnknownRequest, NoAddressFields, HeaderCutOff, LoadBeforeImage, NothingToLoad, LoadPastImage, BssBelowLoadEnd, EntryOutsideLoad, KernelNotOpen, NoRoomForModule, NoRoomForInformation}
 use Rattle.submission.specs.Rules.{submissionChecks}

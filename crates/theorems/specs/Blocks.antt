@@ -1,13 +1,12 @@
 -- The second promise, for the information block: what a kernel reads back from the window.
 --     read-back    for every load into a window of its size
 -- Assumes nothing.
-use mathlib.Core.Path.{_≡_, refl, sym, ap, _∙_}
+use mathlib.Core.Path.{_≡_, refl, ap, _∙_}
 use mathlib.Core.Bool.{true}
 use mathlib.Core.List.{List, [], _∷_, _++_}
-use Prim.Native.Nat.{ℕ, _+_, _*_, _-_, _^_, _/_, min, _≤_, _<_}
+use Prim.Native.Nat.{ℕ, _+_, _*_, _-_, _^_, _≤_, _<_}
 use native.Mathlib.Omega.{arith}
-use lib.ListN.{length, getD, take, drop, length-map}
-use Rattle.laws.specs.Tests.{run}
+use lib.ListN.{length, take, drop, length-map}
 use Rattle.laws.specs.TestLaws.{run-says}
 use Rattle.number.specs.Number.{numberAt}
 use Rattle.number.specs.NumberLaws.{numberAt-inside}
@@ -24,17 +23,17 @@ use Rattle.memory_map.specs.Usable.{limit, usableAt}
 use Rattle.memory_map.specs.Sizes.{memLower, memUpper}
 use Rattle.memory_map.specs.Pairs.{mapOf, parsed}
 use Rattle.memory_map.specs.PairsLaws.{parsed-good}
-use Rattle.information.specs.Information.{lowerAt, upperAt, lineAt, countAt, modulesAt, mapLengthAt, mapAt, nameAt, flagsAt, structureSize, entrySize, loaderName, textsSize, addressOf, mapOffset, nameOffset, lineOffset, stringsOffset, structureAt, structureOf, stringLengths, blockOf, contentsOf, blockLength}
+use Rattle.information.specs.Information.{lowerAt, upperAt, lineAt, countAt, modulesAt, mapLengthAt, mapAt, nameAt, flagsAt, structureSize, entrySize, loaderName, textsSize, addressOf, mapOffset, nameOffset, lineOffset, stringsOffset, structureAt, structureOf, stringLengths, blockOf, blockLength}
 use Rattle.information.specs.Information.{Loaded as LoadedModule}
 use Rattle.information.specs.TextLaws.{size-some, address-some, length-stringLengths, block-length}
-use Rattle.information.specs.Reading.{lengthOf, Small, Fields, EntryAt, fieldsAt, moduleOf, stringOffset, stringAddress}
+use Rattle.information.specs.Reading.{lengthOf, Small, Fields, EntryAt, moduleOf, stringOffset, stringAddress}
 use Rattle.information.specs.InformationLaws.{length-block, map-stands, name-stands, line-stands, string-stands, text-taken, texts-room, fields, word-zero, entry-reads}
 use Rattle.information.specs.WritingLaws.{length-loaded, length-load, load-small, load-module}
 use Rattle.decision.specs.Lent.{Lent, layoutIn, kernelIn, imageIn, lineIn, blockIn}
 use Rattle.decision.specs.Decided.{planOf}
 use Rattle.decision.specs.Decision.{answerOf, planIn}
 use Rattle.loader.specs.Memory.{segmentWrites, moduleWrites, contentsIn, blockWrite, writesOf, memoryAfter}
-use Rattle.loader.specs.LoadLaws.{Loads, spanIn, span-inside, block-span}
+use Rattle.loader.specs.LoadLaws.{Loads, span-inside, block-span}
 use Rattle.loader.specs.WriteLaws.{spans-low, strings-in, room}
 use Rattle.theorems.specs.Promises.{moduleSpan, wordAt, bytesFrom, stringIn, ReadBack}
 

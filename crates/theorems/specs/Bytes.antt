@@ -1,21 +1,19 @@
 -- The second promise: each byte of the window after a load.
 --     written-bytes    for every load into a window of its size
 -- Assumes nothing.
-use mathlib.Core.Path.{_≡_, refl, sym, ap, _∙_}
+use mathlib.Core.Path.{_≡_, refl, ap, _∙_}
 use mathlib.Core.Bool.{true}
 use mathlib.Core.List.{List, [], _∷_, _++_}
-use mathlib.Core.Logic.{⊎-elim, _⊎_, inl, inr}
-use Prim.Native.Nat.{ℕ, zero, suc, _+_, _-_, _≤_, _<_}
+use mathlib.Core.Logic.{⊎-elim, _⊎_}
+use Prim.Native.Nat.{ℕ, _+_, _-_, _≤_, _<_}
 use native.Mathlib.Omega.{arith}
-use lib.ListN.{length, getD, take, drop, length-append, length-replicate, getD-replicate, List·getD-append}
-use lib.Seq.{getD-at, getD-take, getD-drop, getD-append-add}
+use lib.ListN.{length, getD, length-append, length-replicate, getD-replicate, List·getD-append}
+use lib.Seq.{getD-at, getD-append-add}
 use Rattle.image.specs.Judged.{segmentNo}
-use Rattle.address.specs.Address.{noSpan}
-use Rattle.laws.specs.Table.{listed}
 use Rattle.laws.specs.TableLaws.{length-listed, listed-at}
 use Rattle.laws.specs.TestLaws.{lt-or-le}
 use Rattle.memory.specs.Patched.{zeros}
-use Rattle.memory.specs.Writes.{Write, noWrite, writeAt, written, Covers}
+use Rattle.memory.specs.Writes.{noWrite, writeAt, written, Covers}
 use Rattle.memory.specs.WritesLaws.{length-written, written-outside, written-inside}
 use Rattle.address.specs.declared.Span.{Span}
 use Rattle.answer.specs.Answer.{isLoad}
@@ -28,12 +26,12 @@ use Rattle.image.specs.JudgedLaws.{accepted}
 use Rattle.address.specs.InsideLaws.{Holds}
 use Rattle.information.specs.Information.{blockOf}
 use Rattle.information.specs.WritingLaws.{length-load}
-use Rattle.decision.specs.Lent.{Lent, layoutIn, imageIn, kernelIn, lineIn, blockIn}
+use Rattle.decision.specs.Lent.{Lent, layoutIn, imageIn, kernelIn, lineIn}
 use Rattle.decision.specs.Gather.{extentNo}
 use Rattle.decision.specs.Decided.{planOf}
 use Rattle.decision.specs.Decision.{answerOf, planIn}
 use Rattle.loader.specs.Memory.{segmentWrite, segmentWrites, moduleWrite, moduleWrites, contentsIn, blockWrite, writesOf, memoryAfter}
-use Rattle.loader.specs.LoadLaws.{Loads, loads, spanIn, countIn, Inside, span-inside, span-apart, kernel-span, one-segment, module-span, block-span, module-length, block-length}
+use Rattle.loader.specs.LoadLaws.{Loads, spanIn, countIn, span-inside, span-apart, kernel-span, one-segment, module-span, block-span, module-length, block-length}
 use Rattle.loader.specs.WriteLaws.{strings-in}
 use Rattle.theorems.specs.Promises.{byteAt, moduleSpan, Elsewhere, Written}
 

@@ -3,21 +3,18 @@
 --     apart      in every load
 -- Assumes nothing.
 use mathlib.Core.Path.{_≡_, refl, sym, ap, _∙_}
-use mathlib.Core.Bool.{Bool, true, false, not}
+use mathlib.Core.Bool.{true, false}
 use mathlib.Core.List.{List, [], _∷_, _++_}
 use mathlib.Core.Logic.{_↔_, ⊎-elim}
 use Prim.Native.Nat.{ℕ, zero, suc, _+_, _-_, _≤_, _<_}
 use native.Mathlib.Omega.{arith}
-use borrow.Author.Tests.{lt-ltb, le-ltb, not-false, eqb-true, eq-eqb}
-use lib.ListN.{length, getD, replicate, getD-replicate}
-use lib.Seq.{getD-append-add}
+use borrow.Author.Tests.{lt-ltb, le-ltb, not-false, eq-eqb}
+use lib.ListN.{length}
 use Rattle.address.specs.Address.{noSpan}
 use Rattle.laws.specs.Checks.{Check, firstOf}
-use Rattle.laws.specs.Table.{listed}
 use Rattle.laws.specs.TableLaws.{table-at, table-past}
 use Rattle.laws.specs.TestLaws.{lt-or-le}
-use Rattle.address.specs.declared.Span.{Span}
-use Rattle.answer.specs.Answer.{numberOf, isLoad, orElse}
+use Rattle.answer.specs.Answer.{isLoad}
 use Rattle.answer.specs.Order.{appliesAt, chain-append, or-else-second, none-given}
 use Rattle.answer.specs.declared.Answer.{Answer}
 use Rattle.answer.specs.declared.Answer.the-variants.{Load, NoRoomForModule, NoRoomForInformation}
@@ -27,19 +24,19 @@ use Rattle.submission.specs.CommandLine.{operatorChecks}
 use Rattle.board.specs.Window.{windowChecks}
 use Rattle.board.specs.Open.{openAt}
 use Rattle.memory_map.specs.Pairs.{mapChecks}
-use Rattle.image.specs.Judged.{headerChecks, loadChecks, imageChecks, segmentNo}
+use Rattle.image.specs.Judged.{headerChecks, loadChecks, imageChecks}
 use Rattle.image.specs.JudgedLaws.{accepted}
 use Rattle.placement.specs.Free.{maxSpans, spanAt}
 use Rattle.placement.specs.Placing.{InOrder}
 use Rattle.decision.specs.Lent.{Lent, layoutIn, imageIn, kernelIn, boardIn, blockIn}
 use Rattle.decision.specs.Gather.{extentNo, extentsOf, itemsOf, moduleSpans}
 use Rattle.decision.specs.Decided.{kernelOpen, kernelChecks, roomChecks, memoryChecks, planOf}
-use Rattle.decision.specs.Decision.{lentChecks, checks, answerOf, placedIn, planIn}
-use Rattle.decision.specs.DecisionLaws.{lent-refuses, Passed, passed, prepared}
+use Rattle.decision.specs.Decision.{lentChecks, checks, answerOf, placedIn}
+use Rattle.decision.specs.DecisionLaws.{lent-refuses, passed, prepared}
 use Rattle.decision.specs.PlacedLaws.{item-at, item-module, item-block, in-order}
 use Rattle.decision.specs.StageLaws.{kernel-refuses}
 use Rattle.loader.specs.LoadLaws.{Loads, module-span, block-span, span-apart, one-segment}
-use Rattle.theorems.specs.Promises.{moduleSpan, Reached, itemIn, SuitsIn, Placing, Apart}
+use Rattle.theorems.specs.Promises.{moduleSpan, Reached, SuitsIn, Placing, Apart}
 
 -- the checks of a chain's first part
 applies-front : (ks ls : List (Check Answer)) (k : ℕ) → k < length ks → appliesAt (ks ++ ls) k ≡ appliesAt ks k

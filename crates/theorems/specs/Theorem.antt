@@ -1,7 +1,7 @@
 -- The theorem: everything that `Promises` states holds, for all that can be lent.
 --     promised    for every submission, operator's line, memory map, first address and window
 -- Assumes nothing.
-use mathlib.Core.Path.{_≡_, refl, sym, ap, _∙_}
+use mathlib.Core.Path.{_≡_}
 use mathlib.Core.Bool.{true}
 use mathlib.Core.List.{List}
 use Prim.Native.Nat.{ℕ}

@@ -2,12 +2,12 @@
 --     segment-written, module-written    the words of a segment more, of a module more
 --     plan-written                       head, segments and modules over zeros
 -- Assumes nothing.
-use mathlib.Core.Path.{_≡_, refl, sym, ap, _∙_}
+use mathlib.Core.Path.{_≡_, refl, ap, _∙_}
 use mathlib.Core.List.{List, [], _∷_, _++_, append-assoc}
-use Prim.Native.Nat.{ℕ, suc, _+_, _*_, _≤_}
+use Prim.Native.Nat.{ℕ, suc, _+_, _*_}
 use native.Mathlib.Nat.{zero-add}
 use native.Mathlib.Omega.{arith}
-use lib.ListN.{length, set, drop, length-append}
+use lib.ListN.{length, set, length-append}
 use Rattle.memory.specs.Patched.{patched, zeros}
 use Rattle.memory.specs.PatchedLaws.{patched-append, patched-split}
 use Rattle.address.specs.declared.Span.{Span}

@@ -8,7 +8,6 @@ ghost use mathlib.Core.Path.{_≡_};
 ghost use lib.ListN.{length};
 ghost use Rattle.memory.specs.Patched.{patched};
 ghost use Rattle.answer.specs.Answer.{numberOf};
-ghost use Rattle.decision.specs.Lent.{Lent};
 ghost use Rattle.decision.specs.Decision.{decisionOf};
 ghost use Rattle.loader.specs.Memory.{memoryAfter};
 ghost use Rattle.viertompu.specs.Words.{segmentsAt, modulesAt, wordOf, headWords, segmentsWords, modulesWords, planWords};

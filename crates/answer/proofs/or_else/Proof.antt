@@ -1,7 +1,6 @@
 -- `answer::or_else` meets its contract: both branches are those of `orElse`.
 -- Assumes nothing.
 use mathlib.Core.Path.{sym, _∙_}
-use Rattle.answer.specs.Answer.{orElse}
 use Rattle.answer.specs.Order.{or-else-first, or-else-second}
 use borrow.Author.Needs.{needs}
 use Rattle.answer.proofs.or_else.Statement.{statement}

@@ -13,7 +13,7 @@ map-edge-requires c κs = search needs
 
 returns : tie.Need-returns
 unfolding openEdge
-returns c = rw (← c .before .nearer .ensures) (c .map-edge .ensures)
+returns c = cc
 
 pub open-edge-spec : {M : Type 1} → statement M
 open-edge-spec = tie.close (tie.spec nearer-requires map-edge-requires returns)

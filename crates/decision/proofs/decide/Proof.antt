@@ -1,25 +1,15 @@
 -- `decision::decide` meets its contract: a refusal of checks 1 to 14, or the decision on memory.
 -- Assumes nothing.
-use mathlib.Core.Path.{_≡_, refl, sym, ap, _∙_}
-use mathlib.Core.Bool.{true, false}
-use mathlib.Core.List.{List}
-use Prim.Native.Nat.{ℕ, _+_, _≤_, _<_, _^_}
+use mathlib.Core.Path.{_≡_, sym, ap, _∙_}
+use mathlib.Core.Bool.{true}
 use native.Mathlib.Omega.{arith}
 use borrow.Author.Tests.{not-true, not-false}
-use lib.ListN.{length}
 use Rattle.laws.specs.Checks.{firstOf}
-use Rattle.address.specs.declared.Span.{Span}
 use Rattle.answer.specs.Answer.{isLoad}
 use Rattle.answer.specs.declared.Answer.the-variants.{Load}
-use Rattle.submission.specs.declared.Layout.{Layout}
-use Rattle.image.specs.declared.Kernel.{Kernel}
-use Rattle.memory_map.specs.declared.MemMap.{MemMap}
 use Rattle.memory_map.specs.Pairs.{mapOf}
-use Rattle.information.specs.Information.{stringLengths, blockLength}
-use Rattle.decision.specs.Lent.{Lent, layoutIn, kernelIn, lineIn, boardIn, blockIn}
-use Rattle.decision.specs.Decided.{memoryDecision}
+use Rattle.decision.specs.Lent.{Lent, layoutIn, kernelIn, boardIn, blockIn}
 use Rattle.decision.specs.Decision.{lentChecks}
-use Rattle.decision.specs.PlacedLaws.{Prepared}
 use Rattle.decision.specs.DecisionLaws.{passed, prepared, block-small, verdict-is, layout-known, map-known, kernel-known, decided-refused, board-is, block-is, prepared-is, decision-is}
 use borrow.Author.Needs.{needs}
 use Rattle.decision.proofs.decide.Statement.{statement}

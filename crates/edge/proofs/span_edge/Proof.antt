@@ -13,7 +13,7 @@ nearer-requires-2 c κs = search needs
 
 returns : tie.Need-returns
 unfolding spanEdge
-returns c = rw (← c .before .nearer .ensures) (c .nearer2 .ensures)
+returns c = cc
 
 pub span-edge-spec : {M : Type 1} → statement M
 span-edge-spec = tie.close (tie.spec nearer-requires nearer-requires-2 returns)

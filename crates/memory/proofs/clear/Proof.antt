@@ -10,8 +10,6 @@ use Rattle.memory.specs.PatchedLaws.{patched-nil}
 use Rattle.memory.proofs.Parts.{zeros-more, all-zeros}
 use Rattle.memory.proofs.clear.Statement.{statement}
 use Rattle.memory.proofs.clear.Tie as tie
-use Rattle.memory.proofs.clear.Reads as reads
-use Rattle.memory.proofs.clear.Lts as lts
 
 abbrev Inv-loop : tie.InvT-loop
 Inv-loop dst₀ i₀ dst i = (i ≤ length dst₀) × (dst ≡ patched dst₀ 0 (zeros i)) × (length dst ≡ length dst₀)

@@ -1,19 +1,13 @@
 -- `memory::write_bytes` meets its contract: a copy into the part that has room.
 -- Assumes nothing.
-use mathlib.Core.Path.{_≡_, sym, _∙_, ap}
-use mathlib.Core.List.{List, _++_}
-use Prim.Native.Nat.{ℕ, _+_, _-_, _≤_}
+use mathlib.Core.Path.{_≡_, _∙_}
+use Prim.Native.Nat.{_-_}
 use native.Mathlib.Omega.{arith}
-use lib.ListN.{length, take, drop, length-take, length-drop}
-use lib.Seq.{length-take-le}
+use lib.ListN.{take, length-take, length-drop}
 use borrow.Author.Needs.{needs}
 use Rattle.memory.proofs.Parts.{none-written, part-written, part-copied}
 use Rattle.memory.proofs.write_bytes.Statement.{statement}
 use Rattle.memory.proofs.write_bytes.Tie as tie
-use Rattle.memory.proofs.write_bytes.Reads as reads
-use Rattle.memory.proofs.write_bytes.Lts as lts
-use Rattle.bytes.proofs.copy.Reads as copy-reads
-use Rattle.memory.proofs.room.Reads as room-reads
 
 -- src/lib.rt:12:9
 room-requires : tie.Need-room-requires

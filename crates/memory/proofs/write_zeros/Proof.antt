@@ -1,19 +1,10 @@
 -- `memory::write_zeros` meets its contract: the part that has room is cleared.
 -- Assumes nothing.
-use mathlib.Core.Path.{_≡_, sym, _∙_, ap}
-use mathlib.Core.List.{List, _++_}
-use Prim.Native.Nat.{ℕ, _+_, _-_, _≤_}
-use native.Mathlib.Omega.{arith}
-use lib.ListN.{length, take, drop, replicate, length-take, length-drop, length-replicate}
+use Prim.Native.Nat.{_-_}
 use borrow.Author.Needs.{needs}
-use Rattle.memory.specs.Patched.{patched, zeros}
 use Rattle.memory.proofs.Parts.{none-cleared, part-cleared}
 use Rattle.memory.proofs.write_zeros.Statement.{statement}
 use Rattle.memory.proofs.write_zeros.Tie as tie
-use Rattle.memory.proofs.write_zeros.Reads as reads
-use Rattle.memory.proofs.write_zeros.Lts as lts
-use Rattle.memory.proofs.clear.Reads as clear-reads
-use Rattle.memory.proofs.room.Reads as room-reads
 
 -- src/lib.rt:23:9
 room-requires : tie.Need-room-requires

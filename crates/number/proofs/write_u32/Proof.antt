@@ -4,9 +4,6 @@ use Rattle.number.specs.Number.{numberBytes}
 use borrow.Author.Needs.{needs}
 use Rattle.number.proofs.write_u32.Statement.{statement}
 use Rattle.number.proofs.write_u32.Tie as tie
-use Rattle.number.proofs.write_u32.Reads as reads
-use Rattle.number.proofs.write_u32.Lts as lts
-use Rattle.memory.proofs.write_bytes.Reads as write-bytes-reads
 
 -- src/lib.rt:57:9
 cast-t9 : tie.Need-cast-t9

@@ -1,9 +1,8 @@
 -- `number::write_words` meets its contract. The loop's invariant: the words passed are written, and nothing else.
 -- Assumes nothing.
-use mathlib.Core.Path.{_≡_, sym, _∙_, ap}
-use Prim.Native.Nat.{ℕ, _+_, _*_, _-_, _≤_, _<_}
-use native.Mathlib.Omega.{arith}
-use lib.ListN.{length, take, getD}
+use mathlib.Core.Path.{_≡_, sym}
+use Prim.Native.Nat.{_-_, _≤_}
+use lib.ListN.{length, take}
 use lib.Seq.{take-all}
 use Rattle.memory.specs.Patched.{patched}
 use Rattle.memory.specs.PatchedLaws.{patched-nil, patched-past}
@@ -12,9 +11,6 @@ use Rattle.number.proofs.Turns.{write-more}
 use borrow.Author.Needs.{needs}
 use Rattle.number.proofs.write_words.Statement.{statement}
 use Rattle.number.proofs.write_words.Tie as tie
-use Rattle.number.proofs.write_words.Reads as reads
-use Rattle.number.proofs.write_words.Lts as lts
-use Rattle.number.proofs.write_u32.Reads as write-u32-reads
 
 abbrev Inv-loop : tie.InvT-loop
 Inv-loop dst₀ at words i₀ dst i = (i ≤ length words) × (dst ≡ patched dst₀ at (wordBytes (take i words))) × (length dst ≡ length dst₀)

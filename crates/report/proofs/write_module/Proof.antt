@@ -1,9 +1,8 @@
 -- `report::write_module` meets its contract: no line, or the module's.
 -- Assumes nothing.
-use mathlib.Core.Path.{sym}
 use native.Mathlib.Omega.{arith}
 use mathlib.Core.List.{_++_}
-use Rattle.report.specs.Text.{Wrote, decimalText}
+use Rattle.report.specs.Text.{decimalText}
 use Rattle.report.specs.TextLaws.{decimal-short, wrote, wrote-nothing, wrote-behind}
 use Rattle.report.specs.Report.{moduleWord}
 use Rattle.report.specs.ReportLaws.{module-none, module-line}

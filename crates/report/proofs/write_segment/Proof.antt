@@ -1,7 +1,5 @@
 -- `report::write_segment` meets its contract: no line, or the segment's.
 -- Assumes nothing.
-use mathlib.Core.Path.{sym}
-use Rattle.report.specs.Text.{Wrote}
 use Rattle.report.specs.TextLaws.{wrote-nothing}
 use Rattle.report.specs.ReportLaws.{segment-none, segment-line}
 use borrow.Author.Needs.{needs}

@@ -1,7 +1,7 @@
 -- `decision::gather::extents` meets its contract: the loop fills a table.
 -- Assumes nothing.
-use mathlib.Core.Path.{_≡_, sym, ap, _∙_}
-use Prim.Native.Nat.{ℕ, _+_, _-_, _≤_}
+use mathlib.Core.Path.{_≡_, ap, _∙_}
+use Prim.Native.Nat.{_-_, _≤_}
 use native.Mathlib.Omega.{arith}
 use lib.ListN.{replicate}
 use Rattle.laws.specs.Table.{table}
@@ -12,9 +12,6 @@ use Rattle.decision.specs.Gather.{extentNo, extentsOf}
 use borrow.Author.Needs.{needs}
 use Rattle.decision.proofs.gather.extents.Statement.{statement}
 use Rattle.decision.proofs.gather.extents.Tie as tie
-use Rattle.decision.proofs.gather.extents.Reads as reads
-use Rattle.decision.proofs.gather.extents.Lts as lts
-use Rattle.decision.proofs.gather.extent.Reads as extent-reads
 
 abbrev Inv-loop : tie.InvT-loop
 Inv-loop kernel list₀ i₀ list i = (i ≤ kernel .count) × (list ≡ table (extentNo kernel) i maxSpans noSpan)

@@ -8,13 +8,9 @@ use mathlib.Core.Path.{_≡_}
 use Prim.Native.Nat.{ℕ, _≤_, _<_}
 use Rattle.address.specs.Address.{boundaryOf}
 use Rattle.submission.specs.declared.Layout.{Layout}
-use Rattle.placement.specs.declared.Item.{Item}
 use borrow.Author.Needs.{needs}
 use Rattle.decision.proofs.gather.item.Statement.{statement}
 use Rattle.decision.proofs.gather.item.Tie as tie
-use Rattle.decision.proofs.gather.item.Reads as reads
-use Rattle.decision.proofs.gather.item.Lts as lts
-use Rattle.address.proofs.PhysAddr.boundary.Reads as boundary-reads
 
 module _ (l : Layout) (pages : Bool) (size i b : ℕ) where
   module-item : i < l .count → b ≡ boundaryOf pages → record { length = moduleNo l i .«data» .len; boundary = b } ≡ itemNo l pages size i

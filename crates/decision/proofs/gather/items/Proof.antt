@@ -1,7 +1,7 @@
 -- `decision::gather::items` meets its contract: the loop fills a table.
 -- Assumes nothing.
-use mathlib.Core.Path.{_≡_, sym, ap, _∙_}
-use Prim.Native.Nat.{ℕ, _+_, _-_, _≤_}
+use mathlib.Core.Path.{_≡_}
+use Prim.Native.Nat.{_+_, _-_, _≤_}
 use native.Mathlib.Omega.{arith}
 use Rattle.laws.specs.Table.{table}
 use Rattle.laws.specs.TableLaws.{table-none, table-more}
@@ -10,9 +10,6 @@ use Rattle.decision.specs.Gather.{itemNo, itemsOf}
 use borrow.Author.Needs.{needs}
 use Rattle.decision.proofs.gather.items.Statement.{statement}
 use Rattle.decision.proofs.gather.items.Tie as tie
-use Rattle.decision.proofs.gather.items.Reads as reads
-use Rattle.decision.proofs.gather.items.Lts as lts
-use Rattle.decision.proofs.gather.item.Reads as item-reads
 
 abbrev Inv-loop : tie.InvT-loop
 Inv-loop layout pages size list₀ i₀ list i = (i ≤ layout .count + 1) × (list ≡ table (itemNo layout pages size) i maxItems noItem)

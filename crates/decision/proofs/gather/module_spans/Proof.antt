@@ -1,7 +1,7 @@
 -- `decision::gather::module_spans` meets its contract: the loop fills a table.
 -- Assumes nothing.
-use mathlib.Core.Path.{_≡_, sym, ap, _∙_}
-use Prim.Native.Nat.{ℕ, _+_, _-_, _≤_}
+use mathlib.Core.Path.{_≡_, ap, _∙_}
+use Prim.Native.Nat.{_+_, _-_, _≤_}
 use native.Mathlib.Omega.{arith}
 use lib.ListN.{replicate}
 use Rattle.laws.specs.Table.{table}
@@ -13,8 +13,6 @@ use Rattle.decision.specs.Gather.{moduleSpans}
 use borrow.Author.Needs.{needs}
 use Rattle.decision.proofs.gather.module_spans.Statement.{statement}
 use Rattle.decision.proofs.gather.module_spans.Tie as tie
-use Rattle.decision.proofs.gather.module_spans.Reads as reads
-use Rattle.decision.proofs.gather.module_spans.Lts as lts
 
 abbrev Inv-loop : tie.InvT-loop
 Inv-loop from count spans list₀ i₀ list i = (i ≤ count) × (list ≡ table (λ j. spanAt spans (from + j)) i moduleLimit noSpan)

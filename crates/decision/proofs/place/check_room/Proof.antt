@@ -4,12 +4,9 @@ use Rattle.laws.specs.CheckLaws.{chain}
 use Rattle.decision.specs.Decided.{roomChecks}
 use Prim.Native.Nat.{_+_, _<_, _≤_}
 use native.Mathlib.Omega.{arith}
-use borrow.Author.Tests.{lt-ltb, le-ltb}
 use borrow.Author.Needs.{needs}
 use Rattle.decision.proofs.place.check_room.Statement.{statement}
 use Rattle.decision.proofs.place.check_room.Tie as tie
-use Rattle.decision.proofs.place.check_room.Reads as reads
-use Rattle.decision.proofs.place.check_room.Lts as lts
 
 cast-t4 : tie.Need-cast-t4
 cast-t4 c = search needs

@@ -1,30 +1,18 @@
 -- `decision::place::decide_memory` meets its contract: each return is one case of the last two stages.
 -- Assumes nothing.
-use mathlib.Core.Path.{_≡_, refl, sym, ap, _∙_}
-use mathlib.Core.Bool.{true, false}
-use Prim.Native.Nat.{ℕ, _+_, _≤_, _<_}
+use mathlib.Core.Path.{_≡_, sym, ap, _∙_}
+use mathlib.Core.Bool.{true}
 use native.Mathlib.Omega.{arith}
 use borrow.Author.Tests.{not-true, not-false}
 use Rattle.laws.specs.Checks.{firstOf}
 use Rattle.answer.specs.Answer.{isLoad}
 use Rattle.answer.specs.declared.Answer.the-variants.{Load}
-use Rattle.placement.specs.declared.Placed.{Placed}
 use Rattle.decision.specs.Decided.{kernelOpen, roomChecks, placedBy}
 use Rattle.decision.specs.PlacedLaws.{items-ready, span-below}
 use Rattle.decision.specs.StageLaws.{placed-is, room-is, all-placed, decided-closed, decided-no-room, decided-load}
 use borrow.Author.Needs.{needs}
 use Rattle.decision.proofs.place.decide_memory.Statement.{statement}
 use Rattle.decision.proofs.place.decide_memory.Tie as tie
-use Rattle.decision.proofs.place.decide_memory.Reads as reads
-use Rattle.decision.proofs.place.decide_memory.Lts as lts
-use Rattle.answer.proofs.is_load.Reads as is-load-reads
-use Rattle.decision.proofs.gather.extents.Reads as extents-reads
-use Rattle.decision.proofs.gather.items.Reads as items-reads
-use Rattle.decision.proofs.place.check_room.Reads as check-room-reads
-use Rattle.decision.proofs.place.kernel_open.Reads as kernel-open-reads
-use Rattle.decision.proofs.place.plan_of.Reads as plan-of-reads
-use Rattle.decision.proofs.place.refuse.Reads as refuse-reads
-use Rattle.placement.proofs.order.place_items.Reads as place-items-reads
 
 kernel-open-requires : tie.Need-kernel-open-requires
 kernel-open-requires c κs = search needs

@@ -17,10 +17,6 @@ use Rattle.decision.specs.Decided.{extentOpen, kernelOpen}
 use borrow.Author.Needs.{needs}
 use Rattle.decision.proofs.place.kernel_open.Statement.{statement}
 use Rattle.decision.proofs.place.kernel_open.Tie as tie
-use Rattle.decision.proofs.place.kernel_open.Reads as reads
-use Rattle.decision.proofs.place.kernel_open.Lts as lts
-use Rattle.board.proofs.all_open.Reads as all-open-reads
-use Rattle.decision.proofs.gather.extent.Reads as extent-reads
 
 abbrev Inv-loop : tie.InvT-loop
 Inv-loop board kernel i₀ i = (i ≤ kernel .count) × ((j : ℕ) → j < i → extentOpen board kernel j ≡ true)

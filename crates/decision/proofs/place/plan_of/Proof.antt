@@ -4,9 +4,6 @@ use Rattle.decision.specs.Decided.{planOf}
 use borrow.Author.Needs.{needs}
 use Rattle.decision.proofs.place.plan_of.Statement.{statement}
 use Rattle.decision.proofs.place.plan_of.Tie as tie
-use Rattle.decision.proofs.place.plan_of.Reads as reads
-use Rattle.decision.proofs.place.plan_of.Lts as lts
-use Rattle.decision.proofs.gather.module_spans.Reads as module-spans-reads
 
 add-at : tie.Need-add-at
 add-at c = search needs

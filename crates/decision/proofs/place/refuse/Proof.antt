@@ -4,9 +4,6 @@ use Rattle.decision.specs.Decided.{noPlan}
 use borrow.Author.Needs.{needs}
 use Rattle.decision.proofs.place.refuse.Statement.{statement}
 use Rattle.decision.proofs.place.refuse.Tie as tie
-use Rattle.decision.proofs.place.refuse.Reads as reads
-use Rattle.decision.proofs.place.refuse.Lts as lts
-use Rattle.image.proofs.no_kernel.Reads as no-kernel-reads
 
 no-kernel-requires : tie.Need-no-kernel-requires
 no-kernel-requires c κs = search needs

@@ -1,6 +1,6 @@
 -- `loader::write::write_filled` meets its contract: two writes, one behind the other, are one.
 -- Assumes nothing.
-use mathlib.Core.Path.{_≡_, sym}
+use mathlib.Core.Path.{sym}
 use Rattle.memory.specs.PatchedLaws.{patched-past}
 use Rattle.loader.proofs.Turns.{filled}
 use borrow.Author.Needs.{needs}

@@ -1,6 +1,5 @@
 -- `loader::write::write_information` meets its contract: the block's parts, as they are read.
 -- Assumes nothing.
-use mathlib.Core.Path.{_≡_, sym, _∙_, ap}
 use Rattle.memory_map.specs.PairsLaws.{parsed-count}
 use Rattle.loader.proofs.Turns.{block-room, block-written}
 use borrow.Author.Needs.{needs}

@@ -1,9 +1,8 @@
 -- `loader::write::write_load` meets its contract: the three writers together make the writes of a load.
 -- Assumes nothing.
-use mathlib.Core.Path.{_≡_, refl, sym, ap, _∙_}
+use mathlib.Core.Path.{_≡_, ap, _∙_}
 use lib.ListN.{length}
 use Rattle.memory.specs.WritesLaws.{length-written}
-use Rattle.submission.specs.declared.Layout.{Layout}
 use Rattle.decision.specs.Lent.{Lent, layoutIn}
 use Rattle.loader.specs.LoadLaws.{Loads, loads}
 use Rattle.loader.specs.WriteLaws.{layout-read, few-segments, few-modules, block-ready, all-written}

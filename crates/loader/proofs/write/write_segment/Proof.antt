@@ -1,6 +1,5 @@
 -- `loader::write::write_segment` meets its contract: the load bytes, and the zeros behind them.
 -- Assumes nothing.
-use mathlib.Core.Path.{_≡_, ap, _∙_}
 use Rattle.loader.proofs.Turns.{segment-written}
 use borrow.Author.Needs.{needs}
 use Rattle.loader.proofs.write.write_segment.Statement.{statement}

@@ -29,7 +29,7 @@ nearer-requires-2 c κs = search needs
 
 returns : tie.Need-returns
 unfolding spanEdge
-returns c = rw (← c .before .before .before .before .before .before .before .before .before .nearer .ensures) (c .nearer2 .ensures)
+returns c = cc
 
 returns-2 : tie.Need-returns-2
 returns-2 c = past _ _ _ _ _ (c .before .before .before .before .before .before .before .nearer .ensures) (omega arith)

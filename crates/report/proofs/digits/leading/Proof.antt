@@ -1,10 +1,10 @@
 -- `report::digits::leading` meets its contract. The loop's invariant: only zeros were passed.
 -- Assumes nothing.
-use mathlib.Core.Path.{_≡_, refl, ap, sym, _∙_}
-use Prim.Native.Nat.{ℕ, suc, _+_, _-_, _≤_, _<_}
+use mathlib.Core.Path.{_≡_}
+use Prim.Native.Nat.{_+_, _-_, _≤_}
 use native.Mathlib.Numerals.{add-one}
 use native.Mathlib.Omega.{arith}
-use lib.ListN.{length, drop}
+use lib.ListN.{drop}
 use Rattle.report.specs.Text.{leadingZeros, decimalLength}
 use Rattle.report.proofs.Turns.{lead-more, lead-stop, lead-last}
 use borrow.Author.Needs.{needs}
