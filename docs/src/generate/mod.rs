@@ -31,8 +31,8 @@ pub fn case(seed: u64, index: u64) -> Case {
             damage::nudge(&mut rng, &mut draft);
             draft.case(name)
         }
-        12..=16 => damage::damaged(&mut rng, draft, damage::ALL, 1, name),
-        17 => damage::damaged(&mut rng, draft, damage::ALL, 2, name),
+        12..=16 => damage::damaged(&mut rng, draft, &damage::all(), 1, name),
+        17 => damage::damaged(&mut rng, draft, &damage::all(), 2, name),
         _ => {
             let mut case = draft.case(name);
             damage::scramble(&mut rng, &mut case);
@@ -46,8 +46,8 @@ pub fn review_submission(seed: u64, index: u64) -> Vec<u8> {
     let mut rng = Rng::of_case(seed, index);
     let draft = sound(&mut rng, review_board);
     let times = rng.below(2) as usize;
-    let damages = damage::OF_SUBMISSION;
-    damage::damaged(&mut rng, draft, damages, times, String::new()).submission
+    let damages = damage::of_submission();
+    damage::damaged(&mut rng, draft, &damages, times, String::new()).submission
 }
 
 fn review_board(rng: &mut Rng, _: &Needs) -> Board {
