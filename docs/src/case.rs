@@ -1,6 +1,7 @@
 //! One input of a loader, which can be printed, kept in a file and run again.
 
 use std::fmt;
+use std::ops::Range;
 use std::str::FromStr;
 
 /// Everything lent to a loader. The window's bytes are those before the load.
@@ -12,6 +13,14 @@ pub struct Case {
     pub map: Vec<u8>,
     pub window: Vec<u8>,
     pub first: u32,
+}
+
+impl Case {
+    /// The addresses for which the window stands.
+    pub fn addresses(&self) -> Range<u64> {
+        let first = u64::from(self.first);
+        first..first + self.window.len() as u64
+    }
 }
 
 impl fmt::Display for Case {

@@ -4,7 +4,6 @@ use crate::bytes::u32_at;
 use crate::case::Case;
 use crate::handover;
 use crate::naive::{self, Board};
-use crate::pair::pairs;
 use crate::plan::{Loader, Plan, Words};
 use crate::second;
 use std::ops::Range;
@@ -19,7 +18,7 @@ pub struct Outcome {
 /// Runs a loader on a copy of the case's window.
 pub fn run(loader: Loader, case: &Case) -> Outcome {
     let mut window = case.window.clone();
-    let words = loader(&case.submission, &case.operator, &case.map, &mut window, case.first);
+    let words = loader(case, &mut window);
     Outcome { words, window }
 }
 
@@ -63,12 +62,11 @@ pub struct NaiveView {
 impl NaiveView {
     /// Nothing where one of the checks 1 to 14 refuses.
     pub fn of(case: &Case) -> Option<Self> {
-        let window = second::window_span(case.first, case.window.len());
-        let request = second::examine(&case.submission, &case.operator, &case.map, window).ok()?;
+        let request = second::examine(case).ok()?;
         let extent = request.kernel.extent();
         let item = |item: second::Item| (item.length, item.boundary);
         Some(NaiveView {
-            board: Board { pairs: pairs(&case.map), window: window.start..window.end },
+            board: Board::of(case),
             kernel: extent.start..extent.end,
             modules: request.module_items().into_iter().map(item).collect(),
             block: item(request.block_item()),

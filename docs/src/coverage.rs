@@ -12,6 +12,7 @@ use crate::plan::{Extent, Plan};
 use crate::second::{self, Request};
 use std::collections::BTreeMap;
 use std::fmt;
+use std::ops::Range;
 
 /// The numbers of the answers; 11 cannot be reached, as the header found lies in the image behind
 /// the load offset.
@@ -126,9 +127,7 @@ impl fmt::Display for Coverage {
 /// The edges a case stands on.
 fn edges(case: &Case, outcome: &Outcome) -> Vec<&'static str> {
     let mut found = window_edges(case);
-    let window = second::window_span(case.first, case.window.len());
-    let request = second::examine(&case.submission, &case.operator, &case.map, window);
-    let Ok(request) = request else {
+    let Ok(request) = second::examine(case) else {
         return found;
     };
     found.extend(map_edges(&case.map));
@@ -158,8 +157,7 @@ fn chosen(edges: &[(bool, &'static str)]) -> Vec<&'static str> {
 }
 
 fn window_edges(case: &Case) -> Vec<&'static str> {
-    let first = u64::from(case.first);
-    let end = first + case.window.len() as u64;
+    let Range { start: first, end } = case.addresses();
     let empty = case.window.is_empty();
     chosen(&[
         (empty, "window empty"),
@@ -224,8 +222,7 @@ fn load_edges(case: &Case, request: &Request, plan: &Plan, outcome: &Outcome) ->
 
 /// Does a load's item end where open memory ends, or fill a gap exactly?
 fn gap_edges(case: &Case, request: &Request, plan: &Plan) -> Vec<&'static str> {
-    let first = u64::from(case.first);
-    let board = Board { pairs: pairs(&case.map), window: first..first + case.window.len() as u64 };
+    let board = Board::of(case);
     let mut items = plan.modules[..request.submission.modules.len()].to_vec();
     items.push(plan.block);
     let ends = |item: &Extent| !board.open(u64::from(item.end));

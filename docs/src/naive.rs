@@ -1,14 +1,15 @@
 //! Usable, open and placing, decided by asking every address in turn. Exact for every board, but
 //! quick only for small ones. It shares no code with the second loader's placing.
 
+use crate::case::Case;
 use crate::limits::{ADDRESS_SPACE, FLOOR, MAX_MEM_LOWER};
-use crate::pair::Pair;
+use crate::pair::{pairs, Pair};
 use crate::plan::Refusal;
 use std::ops::Range;
 
 /// A map and the addresses of a window.
 pub struct Board {
-    pub pairs: Vec<Pair>,
+    pairs: Vec<Pair>,
     pub window: Range<u64>,
 }
 
@@ -16,6 +17,11 @@ pub struct Board {
 pub type Item = (u64, u64);
 
 impl Board {
+    /// The board of a case whose map is sound.
+    pub fn of(case: &Case) -> Self {
+        Board { pairs: pairs(&case.map), window: case.addresses() }
+    }
+
     /// About how many times a pair is asked about an address in all questions together.
     pub fn cost(&self) -> u128 {
         let usable = self.pairs.iter().filter(|pair| pair.kind == 1);

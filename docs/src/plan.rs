@@ -1,5 +1,6 @@
 //! What a loader answers: a plan or a refusal, as types and as 96 words.
 
+use crate::case::Case;
 use crate::limits::{MAX_MODULES, MAX_SEGMENTS};
 
 /// The words of an answer.
@@ -13,8 +14,8 @@ const MODULES_AT: usize = 56;
 
 pub type Words = [u32; WORDS];
 
-/// A loader: submission, operator's line, map, window and the window's first address.
-pub type Loader = fn(&[u8], &[u8], &[u8], &mut [u8], u32) -> Words;
+/// A loader: it loads a case into a window that begins as a copy of the case's.
+pub type Loader = fn(&Case, &mut [u8]) -> Words;
 
 /// The addresses from `start` up to but not including `end`.
 #[derive(Clone, Copy, Debug, Default, PartialEq, Eq)]

@@ -1,5 +1,6 @@
 //! The proved loader behind the same function type as the second one.
 
+use crate::case::Case;
 use crate::plan::{Words, WORDS};
 
 extern "C" {
@@ -20,28 +21,22 @@ extern "C" {
 /// Stands in every word before the call, so that a word left unwritten shows.
 const UNWRITTEN: u32 = 0xDEAD_BEEF;
 
-/// Loads a submission into the window, or refuses and leaves the window as it was.
-pub fn load(
-    submission: &[u8],
-    operator: &[u8],
-    map: &[u8],
-    window: &mut [u8],
-    first: u32,
-) -> Words {
+/// Loads the case into the window, or refuses and leaves the window as it was.
+pub fn load(case: &Case, window: &mut [u8]) -> Words {
     let mut plan = [UNWRITTEN; WORDS];
     // SAFETY: each pointer comes with the length of the slice it is taken from; the window and the
     // plan are borrowed for writing and overlap nothing; the function keeps no pointer.
     let number = unsafe {
         viertompu_load(
-            submission.as_ptr(),
-            submission.len(),
-            operator.as_ptr(),
-            operator.len(),
-            map.as_ptr(),
-            map.len(),
+            case.submission.as_ptr(),
+            case.submission.len(),
+            case.operator.as_ptr(),
+            case.operator.len(),
+            case.map.as_ptr(),
+            case.map.len(),
             window.as_mut_ptr(),
             window.len(),
-            first,
+            case.first,
             plan.as_mut_ptr(),
         )
     };

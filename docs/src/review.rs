@@ -1,6 +1,7 @@
 //! What the review program prints for a submission.
 
 use crate::case::Case;
+use crate::compare::run;
 use crate::limits::FLOOR;
 use crate::pair::{map_bytes, Pair};
 use crate::plan::{Loader, Plan, Words};
@@ -33,10 +34,7 @@ pub fn output(loader: Loader, submission: &[u8]) -> String {
     if submission.len() > MAX_INPUT {
         return format!("input over {MAX_INPUT} bytes\n");
     }
-    let mut case = case(submission);
-    let window = &mut case.window;
-    let words = loader(submission, &[], &case.map, window, case.first);
-    lines(submission, &words)
+    lines(submission, &run(loader, &case(submission)).words)
 }
 
 fn lines(submission: &[u8], words: &Words) -> String {

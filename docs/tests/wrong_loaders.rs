@@ -2,74 +2,74 @@
 
 use viertompu_host::bench_cases::b1;
 use viertompu_host::bytes::{put_u32, u32_at};
+use viertompu_host::case::Case;
 use viertompu_host::compare::{run, same, sound};
 use viertompu_host::plan::{Loader, Plan, Refusal, Words};
 use viertompu_host::{generate, review, second};
 
 const CASES: u64 = 2000;
 
-fn refuses_everything(_: &[u8], _: &[u8], _: &[u8], _: &mut [u8], _: u32) -> Words {
+fn refuses_everything(_: &Case, _: &mut [u8]) -> Words {
     Refusal::NotASubmission.words()
 }
 
-fn always_the_same_plan(s: &[u8], o: &[u8], m: &[u8], w: &mut [u8], first: u32) -> Words {
-    let words = second::load(s, o, m, w, first);
+fn always_the_same_plan(case: &Case, window: &mut [u8]) -> Words {
+    let words = second::load(case, window);
     match words[0] {
         0 => run(second::load, &review::case(&b1())).words,
         _ => words,
     }
 }
 
-fn never_writes(s: &[u8], o: &[u8], m: &[u8], w: &mut [u8], first: u32) -> Words {
-    second::load(s, o, m, &mut w.to_vec(), first)
+fn never_writes(case: &Case, window: &mut [u8]) -> Words {
+    second::load(case, &mut window.to_vec())
 }
 
-fn lists_all_but_the_first_module(s: &[u8], o: &[u8], m: &[u8], w: &mut [u8], first: u32) -> Words {
-    let before = w.to_vec();
-    let words = second::load(s, o, m, w, first);
+fn lists_all_but_the_first_module(case: &Case, window: &mut [u8]) -> Words {
+    let words = second::load(case, window);
     if let Some(plan) = Plan::of_words(&words) {
         for module in plan.modules[1..].iter().filter(|m| m.end != 0) {
-            let part = (module.start - first) as usize..(module.end - first) as usize;
-            w[part.clone()].copy_from_slice(&before[part]);
+            let offset = |address: u32| (address - case.first) as usize;
+            let part = offset(module.start)..offset(module.end);
+            window[part.clone()].copy_from_slice(&case.window[part]);
         }
     }
     words
 }
 
-fn clears_a_byte_behind_the_bss(s: &[u8], o: &[u8], m: &[u8], w: &mut [u8], first: u32) -> Words {
-    let words = second::load(s, o, m, w, first);
+fn clears_a_byte_behind_the_bss(case: &Case, window: &mut [u8]) -> Words {
+    let words = second::load(case, window);
     if let Some(plan) = Plan::of_words(&words) {
-        let end = (plan.segments[0].extent_end - first) as usize;
-        if let Some(byte) = w.get_mut(end) {
+        let end = (plan.segments[0].extent_end - case.first) as usize;
+        if let Some(byte) = window.get_mut(end) {
             *byte = 0;
         }
     }
     words
 }
 
-fn changes_the_block(w: &mut [u8], words: &Words, first: u32, field: usize) {
-    if let Some(plan) = Plan::of_words(words) {
-        let at = (plan.block.start - first) as usize + field;
-        put_u32(w, at, u32_at(w, at).wrapping_add(1));
+/// Loads, and adds 1 to a field of the information structure.
+fn invents(field: usize, case: &Case, window: &mut [u8]) -> Words {
+    let words = second::load(case, window);
+    if let Some(plan) = Plan::of_words(&words) {
+        let at = (plan.block.start - case.first) as usize + field;
+        put_u32(window, at, u32_at(window, at).wrapping_add(1));
     }
-}
-
-fn invents_mem_upper(s: &[u8], o: &[u8], m: &[u8], w: &mut [u8], first: u32) -> Words {
-    let words = second::load(s, o, m, w, first);
-    changes_the_block(w, &words, first, 8);
     words
 }
 
-fn invents_mods_count(s: &[u8], o: &[u8], m: &[u8], w: &mut [u8], first: u32) -> Words {
-    let words = second::load(s, o, m, w, first);
-    changes_the_block(w, &words, first, 20);
-    words
+fn invents_mem_upper(case: &Case, window: &mut [u8]) -> Words {
+    invents(8, case, window)
 }
 
-fn writes_before_it_refuses(s: &[u8], o: &[u8], m: &[u8], w: &mut [u8], first: u32) -> Words {
-    let words = second::load(s, o, m, w, first);
+fn invents_mods_count(case: &Case, window: &mut [u8]) -> Words {
+    invents(20, case, window)
+}
+
+fn writes_before_it_refuses(case: &Case, window: &mut [u8]) -> Words {
+    let words = second::load(case, window);
     if words[0] >= 16 {
-        w[0] = 0;
+        window[0] = 0;
     }
     words
 }

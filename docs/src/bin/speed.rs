@@ -10,7 +10,7 @@ use viertompu_host::compare::others;
 use viertompu_host::generate::draft::{pattern, Draft, Header, Module};
 use viertompu_host::limits::{FLOOR, MAX_MODULES, MAX_PAIRS};
 use viertompu_host::pair::Pair;
-use viertompu_host::plan::{Loader, Plan, Words};
+use viertompu_host::plan::Plan;
 use viertompu_host::second::{self, submission::Submission};
 
 const MIB: usize = 1 << 20;
@@ -22,19 +22,19 @@ const ROUNDS: usize = 51;
 fn main() {
     let case = case();
     let mut window = case.window.clone();
-    let words = load(second::load, &case, &mut window);
+    let words = second::load(&case, &mut window);
     let plan = Plan::of_words(&words).expect("the case is a load");
     let parts = parts(&case, &plan, &window);
     let written: usize = parts.iter().map(|(_, bytes)| bytes.len()).sum();
     println!("{written} bytes written, median and least of {ROUNDS} rounds");
     report("plain copy", written, || copy(&parts, &mut window));
     report("second", written, || {
-        black_box(load(second::load, &case, &mut window));
+        black_box(second::load(&case, &mut window));
     });
     for (name, loader) in others() {
-        assert!(load(loader, &case, &mut window) == words, "{name} differs");
+        assert!(loader(&case, &mut window) == words, "{name} differs");
         report(name, written, || {
-            black_box(load(loader, &case, &mut window));
+            black_box(loader(&case, &mut window));
         });
     }
 }
@@ -75,11 +75,6 @@ fn map() -> Vec<Pair> {
     let mut pairs = vec![Pair::new(0, 0x9_FC00, 1)];
     pairs.extend((0..count).map(part));
     pairs
-}
-
-fn load(loader: Loader, case: &Case, window: &mut [u8]) -> Words {
-    let (submission, operator) = (&case.submission, &case.operator);
-    loader(submission, operator, &case.map, window, case.first)
 }
 
 /// What a load writes: where in the window, and the bytes.

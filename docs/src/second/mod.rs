@@ -9,35 +9,24 @@ pub mod memory;
 pub mod spans;
 pub mod submission;
 
+use crate::case::Case;
 use crate::limits::{BOOT_MAGIC, MAX_LINE, MAX_MODULES, MAX_SEGMENTS, PAGE, TOP, WORD};
 use crate::plan::{self, Answer, Extent, Plan, Refusal, Segment, Words};
 use boot_info::BootInfo;
 use kernel::Kernel;
 use memory::MemoryMap;
 use spans::{Span, SpanSet};
+use std::ops::Range;
 use submission::Submission;
 
-/// Loads a submission into the window, or refuses and leaves the window as it was.
-pub fn load(
-    submission: &[u8],
-    operator: &[u8],
-    map: &[u8],
-    window: &mut [u8],
-    first: u32,
-) -> Words {
-    let lent = window_span(first, window.len());
-    let answer: Answer = examine(submission, operator, map, lent).and_then(|request| {
-        let layout = place(&request, lent)?;
-        write(&request, &layout, window, lent);
+/// Loads the case into the window, or refuses and leaves the window as it was.
+pub fn load(case: &Case, window: &mut [u8]) -> Words {
+    let answer: Answer = examine(case).and_then(|request| {
+        let layout = place(&request)?;
+        write(&request, &layout, window);
         Ok(plan_of(&request, &layout))
     });
     plan::words(&answer)
-}
-
-/// The addresses for which the window stands.
-pub fn window_span(first: u32, length: usize) -> Span {
-    let start = u64::from(first);
-    Span { start, end: start + length as u64 }
 }
 
 /// What is to be loaded: everything known before the kernel meets the board.
@@ -46,6 +35,7 @@ pub struct Request<'a> {
     pub submission: Submission<'a>,
     pub command_line: &'a [u8],
     pub map: MemoryMap<'a>,
+    pub window: Span,
 }
 
 /// Something to be placed.
@@ -56,26 +46,22 @@ pub struct Item {
 }
 
 /// Checks 1 to 14.
-pub fn examine<'a>(
-    submission: &'a [u8],
-    operator: &'a [u8],
-    map: &'a [u8],
-    window: Span,
-) -> Result<Request<'a>, Refusal> {
-    let submission = Submission::read(submission)?;
-    if operator.len() > MAX_LINE || operator.contains(&0) {
+pub fn examine(case: &Case) -> Result<Request<'_>, Refusal> {
+    let submission = Submission::read(&case.submission)?;
+    if case.operator.len() > MAX_LINE || case.operator.contains(&0) {
         return Err(Refusal::BadOperatorLine);
     }
-    if window.end > TOP {
+    let Range { start, end } = case.addresses();
+    if end > TOP {
         return Err(Refusal::WindowTooHigh);
     }
-    let map = MemoryMap::read(map)?;
+    let map = MemoryMap::read(&case.map)?;
     let kernel = Kernel::read(submission.image)?;
-    let command_line = match operator {
+    let command_line = match &case.operator[..] {
         [] => submission.command_line,
-        _ => operator,
+        operator => operator,
     };
-    Ok(Request { kernel, submission, command_line, map })
+    Ok(Request { kernel, submission, command_line, map, window: Span { start, end } })
 }
 
 impl Request<'_> {
@@ -100,8 +86,8 @@ pub struct Layout {
 }
 
 /// Checks 15 to 17.
-fn place(request: &Request, window: Span) -> Result<Layout, Refusal> {
-    let mut free = request.map.usable().within(window);
+fn place(request: &Request) -> Result<Layout, Refusal> {
+    let mut free = request.map.usable().within(request.window);
     if !free.covers(request.kernel.extent()) {
         return Err(Refusal::KernelNotOpen);
     }
@@ -124,8 +110,8 @@ fn take(free: &mut SpanSet, item: Item) -> Option<Span> {
 }
 
 /// Writes the load bytes, zeros over the bss, the modules and the information block.
-fn write(request: &Request, layout: &Layout, window: &mut [u8], lent: Span) {
-    let kernel = &request.kernel;
+fn write(request: &Request, layout: &Layout, window: &mut [u8]) {
+    let (kernel, lent) = (&request.kernel, request.window);
     part(window, lent, kernel.load).copy_from_slice(kernel.load_bytes);
     part(window, lent, kernel.bss()).fill(0);
     for (module, &span) in request.submission.modules.iter().zip(&layout.modules) {
