@@ -90,35 +90,31 @@ fn caught_by_reading(loader: Loader) -> bool {
     })
 }
 
+/// Their loads and refusals show that they are wrong.
+const WRONG_BY_THEMSELVES: [(&str, Loader); 6] = [
+    ("always_the_same_plan", always_the_same_plan),
+    ("never_writes", never_writes),
+    ("lists_all_but_the_first_module", lists_all_but_the_first_module),
+    ("clears_a_byte_behind_the_bss", clears_a_byte_behind_the_bss),
+    ("invents_mods_count", invents_mods_count),
+    ("writes_before_it_refuses", writes_before_it_refuses),
+];
+
+/// Only another loader shows that they are wrong.
+const WRONG_BESIDE_ANOTHER: [(&str, Loader); 2] =
+    [("refuses_everything", refuses_everything), ("invents_mem_upper", invents_mem_upper)];
+
 #[test]
 fn comparison_catches_wrong_loaders() {
-    let wrong: [Loader; 8] = [
-        refuses_everything,
-        always_the_same_plan,
-        never_writes,
-        lists_all_but_the_first_module,
-        clears_a_byte_behind_the_bss,
-        invents_mem_upper,
-        invents_mods_count,
-        writes_before_it_refuses,
-    ];
-    for (index, loader) in wrong.into_iter().enumerate() {
-        assert!(caught_beside_the_second(loader), "wrong loader {index}");
+    for (name, loader) in WRONG_BY_THEMSELVES.into_iter().chain(WRONG_BESIDE_ANOTHER) {
+        assert!(caught_beside_the_second(loader), "{name}");
     }
 }
 
 #[test]
 fn reading_a_load_catches_wrong_loaders() {
-    let wrong: [Loader; 6] = [
-        always_the_same_plan,
-        never_writes,
-        lists_all_but_the_first_module,
-        clears_a_byte_behind_the_bss,
-        invents_mods_count,
-        writes_before_it_refuses,
-    ];
-    for (index, loader) in wrong.into_iter().enumerate() {
-        assert!(caught_by_reading(loader), "wrong loader {index}");
+    for (name, loader) in WRONG_BY_THEMSELVES {
+        assert!(caught_by_reading(loader), "{name}");
     }
 }
 
