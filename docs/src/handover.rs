@@ -4,20 +4,29 @@
 use crate::bytes::u32_at;
 use crate::case::Case;
 use crate::compare::Outcome;
-use crate::limits::{BOOT_MAGIC, FLOOR, LOADER_NAME, PAGE, WORD};
+use crate::limits::{BOOT_MAGIC, FLOOR, LOADER_NAME, MODULE_ENTRY, PAGE, STRUCTURE, WORD};
 use crate::plan::{Extent, Plan, Segment};
-use crate::second::submission::Submission;
+use crate::second::submission::{Module, Submission};
 
 /// Says what in a load is not as it should be.
 pub fn check(case: &Case, plan: &Plan, outcome: &Outcome) -> Result<(), String> {
     let submission = Submission::read(&case.submission).map_err(|_| "loaded a bad submission")?;
     let memory = Memory { first: u64::from(case.first), bytes: &outcome.window };
-    kernel(&submission, plan, &memory)?;
-    modules(&submission, plan, &memory)?;
-    structure(case, &submission, plan, &memory)?;
-    module_entries(&submission, plan, &memory)?;
-    contents(case, &submission, plan, &memory)?;
-    rest(case, &submission, plan, &memory)
+    let load = Load { case, submission, plan, memory };
+    load.kernel()?;
+    load.modules()?;
+    load.structure()?;
+    load.module_entries()?;
+    load.contents()?;
+    load.rest()
+}
+
+/// A finished load and what it was made from.
+struct Load<'a> {
+    case: &'a Case,
+    submission: Submission<'a>,
+    plan: &'a Plan,
+    memory: Memory<'a>,
 }
 
 /// The window after the load, by address. Addresses are wide, so that no sum of them wraps.
@@ -61,142 +70,145 @@ fn demand(holds: bool, what: &str) -> Result<(), String> {
     }
 }
 
-/// A word of the header that the plan names.
-fn header_word(submission: &Submission, plan: &Plan, offset: u32) -> Result<u32, String> {
-    let at = plan.header_offset.saturating_add(offset) as usize;
-    let bytes = submission.image.get(at..at + 4);
-    Ok(u32_at(bytes.ok_or("the header is not in the image")?, 0))
-}
-
-/// The image's bytes lie where header_addr ties them, and zeros behind them.
-fn kernel(submission: &Submission, plan: &Plan, memory: &Memory) -> Result<(), String> {
-    let segment = plan.segments[0];
-    let load = memory.part(u64::from(segment.start), u64::from(segment.load_end))?;
-    let bss = memory.part(u64::from(segment.load_end), u64::from(segment.extent_end))?;
-    let header_addr = header_word(submission, plan, 12)?;
-    let distance = i64::from(header_addr) - i64::from(segment.start);
-    let from = usize::try_from(i64::from(plan.header_offset) - distance);
-    let image = submission.image.get(from.unwrap_or(usize::MAX)..);
-    demand(image.is_some_and(|i| i.starts_with(load)), "load bytes")?;
-    demand(bss.iter().all(|&byte| byte == 0), "bss")?;
-    let entry = header_word(submission, plan, 28)?;
-    let inside = (segment.start..segment.load_end).contains(&entry);
-    demand(plan.entry == entry && inside, "entry")?;
-    let others = &plan.segments[1..];
-    demand(others.iter().all(|s| *s == Segment::default()), "segments")
-}
-
-/// Each module's data stands whole at a boundary from 1 MiB up.
-fn modules(submission: &Submission, plan: &Plan, memory: &Memory) -> Result<(), String> {
-    let flags = header_word(submission, plan, 4)?;
-    let boundary = if flags & 1 == 1 { PAGE } else { WORD };
-    for (module, place) in submission.modules.iter().zip(&plan.modules) {
-        let start = u64::from(place.start);
-        demand(start >= FLOOR && start % boundary == 0, "module's boundary")?;
-        demand(memory.extent(*place)? == module.data, "module's data")?;
+impl<'a> Load<'a> {
+    /// A word of the header that the plan names.
+    fn header_word(&self, offset: u32) -> Result<u32, String> {
+        let at = self.plan.header_offset.saturating_add(offset) as usize;
+        let bytes = self.submission.image.get(at..at + 4);
+        Ok(u32_at(bytes.ok_or("the header is not in the image")?, 0))
     }
-    let unused = &plan.modules[submission.modules.len()..];
-    demand(unused.iter().all(|m| *m == Extent::default()), "modules")
-}
 
-/// The structure's flags and counts, and zeros in every field that is not given.
-fn structure(
-    case: &Case,
-    submission: &Submission,
-    plan: &Plan,
-    memory: &Memory,
-) -> Result<(), String> {
-    let ebx = u64::from(plan.ebx);
-    demand(plan.eax == BOOT_MAGIC, "EAX")?;
-    demand(plan.ebx == plan.block.start, "EBX")?;
-    demand(ebx >= FLOOR && ebx % WORD == 0, "block's boundary")?;
-    let line = command_line(case, submission);
-    let flags = if line.is_empty() { 0x249 } else { 0x24D };
-    demand(memory.word(ebx)? == flags, "flags")?;
-    let count = submission.modules.len() as u64;
-    demand(memory.word(ebx + 20)? == count, "mods_count")?;
-    demand(memory.word(ebx + 24)? == ebx + 88, "mods_addr")?;
-    let length = case.map.len() as u64;
-    demand(memory.word(ebx + 44)? == length, "mmap_length")?;
-    let given = [0, 4, 8, 16, 20, 24, 44, 48, 64];
-    for offset in (0..88).step_by(4).filter(|at| !given.contains(at)) {
-        demand(memory.word(ebx + offset)? == 0, "fields not given")?;
-    }
-    Ok(())
-}
-
-fn command_line<'a>(case: &'a Case, submission: &Submission<'a>) -> &'a [u8] {
-    if case.operator.is_empty() {
-        submission.command_line
-    } else {
-        &case.operator
-    }
-}
-
-/// Each entry tells the module's place and its string.
-fn module_entries(submission: &Submission, plan: &Plan, memory: &Memory) -> Result<(), String> {
-    let mods_addr = memory.word(u64::from(plan.ebx) + 24)?;
-    for (index, (module, place)) in submission.modules.iter().zip(&plan.modules).enumerate() {
-        let entry = mods_addr + 16 * index as u64;
-        let (start, end) = (u64::from(place.start), u64::from(place.end));
-        demand(memory.word(entry)? == start, "mod_start")?;
-        demand(memory.word(entry + 4)? == end, "mod_end")?;
-        demand(memory.word(entry + 12)? == 0, "module entry's last word")?;
-        let told = match memory.word(entry + 8)? {
-            0 => &[],
-            address => memory.text(address)?,
-        };
-        demand(told == module.string, "module's string")?;
-    }
-    Ok(())
-}
-
-/// Map, loader name, command line and strings follow each other without gaps to the block's end.
-fn contents(
-    case: &Case,
-    submission: &Submission,
-    plan: &Plan,
-    memory: &Memory,
-) -> Result<(), String> {
-    let ebx = u64::from(plan.ebx);
-    let mut next = ebx + 88 + 16 * submission.modules.len() as u64;
-    demand(memory.word(ebx + 48)? == next, "mmap_addr")?;
-    let end = next + case.map.len() as u64;
-    demand(memory.part(next, end)? == case.map, "map")?;
-    next = end;
-    let mut expect = |text: &[u8], told: u64| {
-        let address = if text.is_empty() { 0 } else { next };
-        demand(told == address, "text's address")?;
-        if !text.is_empty() {
-            demand(memory.text(told)? == text, "text")?;
-            next += text.len() as u64 + 1;
+    /// The command line in force.
+    fn command_line(&self) -> &'a [u8] {
+        if self.case.operator.is_empty() {
+            self.submission.command_line
+        } else {
+            &self.case.operator
         }
-        Ok::<(), String>(())
-    };
-    expect(LOADER_NAME, memory.word(ebx + 64)?)?;
-    let line = command_line(case, submission);
-    expect(line, memory.word(ebx + 16)?)?;
-    for (index, module) in submission.modules.iter().enumerate() {
-        let entry = ebx + 88 + 16 * index as u64;
-        expect(module.string, memory.word(entry + 8)?)?;
     }
-    demand(next == u64::from(plan.block.end), "block's end")
-}
 
-/// No two parts share a byte, and no byte outside of them changed.
-fn rest(case: &Case, submission: &Submission, plan: &Plan, memory: &Memory) -> Result<(), String> {
-    let kernel = Extent { start: plan.segments[0].start, end: plan.segments[0].extent_end };
-    let mut parts = vec![kernel, plan.block];
-    parts.extend_from_slice(&plan.modules[..submission.modules.len()]);
-    parts.sort_by_key(|part| part.start);
-    let apart = |two: &[Extent]| two[0].end <= two[1].start;
-    demand(parts.windows(2).all(apart), "parts that share a byte")?;
-    let offset = |address: u32| (u64::from(address) - memory.first) as usize;
-    let unchanged = |from: usize, to: usize| memory.bytes[from..to] == case.window[from..to];
-    let mut from = 0;
-    for part in parts {
-        demand(unchanged(from, offset(part.start)), "bytes between")?;
-        from = offset(part.end);
+    /// The modules with their places.
+    fn placed_modules(&self) -> impl Iterator<Item = (&Module<'a>, &Extent)> {
+        self.submission.modules.iter().zip(&self.plan.modules)
     }
-    demand(unchanged(from, memory.bytes.len()), "bytes behind")
+
+    /// The image's bytes lie where header_addr ties them, and zeros behind them.
+    fn kernel(&self) -> Result<(), String> {
+        let (plan, segment) = (self.plan, self.plan.segments[0]);
+        let loaded = self.memory.part(u64::from(segment.start), u64::from(segment.load_end))?;
+        let bss = self.memory.part(u64::from(segment.load_end), u64::from(segment.extent_end))?;
+        let distance = i64::from(self.header_word(12)?) - i64::from(segment.start);
+        let from = usize::try_from(i64::from(plan.header_offset) - distance);
+        let image = self.submission.image.get(from.unwrap_or(usize::MAX)..);
+        demand(image.is_some_and(|i| i.starts_with(loaded)), "load bytes")?;
+        demand(bss.iter().all(|&byte| byte == 0), "bss")?;
+        let entry = self.header_word(28)?;
+        let inside = (segment.start..segment.load_end).contains(&entry);
+        demand(plan.entry == entry && inside, "entry")?;
+        let others = &plan.segments[1..];
+        demand(others.iter().all(|s| *s == Segment::default()), "segments")
+    }
+
+    /// Each module's data stands whole at a boundary from 1 MiB up.
+    fn modules(&self) -> Result<(), String> {
+        let flags = self.header_word(4)?;
+        let boundary = if flags & 1 == 1 { PAGE } else { WORD };
+        for (module, place) in self.placed_modules() {
+            let start = u64::from(place.start);
+            demand(start >= FLOOR && start % boundary == 0, "module's boundary")?;
+            demand(self.memory.extent(*place)? == module.data, "module's data")?;
+        }
+        let unused = &self.plan.modules[self.submission.modules.len()..];
+        demand(unused.iter().all(|m| *m == Extent::default()), "modules")
+    }
+
+    /// A word of the information structure.
+    fn field(&self, offset: u64) -> Result<u64, String> {
+        self.memory.word(u64::from(self.plan.ebx) + offset)
+    }
+
+    /// The structure's flags and counts, and zeros in every field that is not given.
+    fn structure(&self) -> Result<(), String> {
+        let ebx = u64::from(self.plan.ebx);
+        demand(self.plan.eax == BOOT_MAGIC, "EAX")?;
+        demand(self.plan.ebx == self.plan.block.start, "EBX")?;
+        demand(ebx >= FLOOR && ebx % WORD == 0, "block's boundary")?;
+        let flags = if self.command_line().is_empty() { 0x249 } else { 0x24D };
+        demand(self.field(0)? == flags, "flags")?;
+        let count = self.submission.modules.len() as u64;
+        demand(self.field(20)? == count, "mods_count")?;
+        demand(self.field(24)? == ebx + STRUCTURE, "mods_addr")?;
+        let length = self.case.map.len() as u64;
+        demand(self.field(44)? == length, "mmap_length")?;
+        let given = [0, 4, 8, 16, 20, 24, 44, 48, 64];
+        for offset in (0..STRUCTURE).step_by(4).filter(|at| !given.contains(at)) {
+            demand(self.field(offset)? == 0, "fields not given")?;
+        }
+        Ok(())
+    }
+
+    /// Each entry tells the module's place and its string.
+    fn module_entries(&self) -> Result<(), String> {
+        let mut entry = self.field(24)?;
+        for (module, place) in self.placed_modules() {
+            let word = |offset: u64| self.memory.word(entry + offset);
+            demand(word(0)? == u64::from(place.start), "mod_start")?;
+            demand(word(4)? == u64::from(place.end), "mod_end")?;
+            demand(word(12)? == 0, "module entry's last word")?;
+            let told = match word(8)? {
+                0 => &[],
+                address => self.memory.text(address)?,
+            };
+            demand(told == module.string, "module's string")?;
+            entry += MODULE_ENTRY;
+        }
+        Ok(())
+    }
+
+    /// Map, loader name, command line and strings follow each other without gaps to the block's
+    /// end.
+    fn contents(&self) -> Result<(), String> {
+        let mods_addr = u64::from(self.plan.ebx) + STRUCTURE;
+        let entries = (mods_addr..).step_by(MODULE_ENTRY as usize);
+        let mut next = mods_addr + MODULE_ENTRY * self.submission.modules.len() as u64;
+        demand(self.field(48)? == next, "mmap_addr")?;
+        let end = next + self.case.map.len() as u64;
+        demand(self.memory.part(next, end)? == self.case.map, "map")?;
+        next = end;
+        let mut expect = |text: &[u8], told: u64| {
+            let address = if text.is_empty() { 0 } else { next };
+            demand(told == address, "text's address")?;
+            if !text.is_empty() {
+                demand(self.memory.text(told)? == text, "text")?;
+                next += text.len() as u64 + 1;
+            }
+            Ok::<(), String>(())
+        };
+        expect(LOADER_NAME, self.field(64)?)?;
+        expect(self.command_line(), self.field(16)?)?;
+        for (module, entry) in self.submission.modules.iter().zip(entries) {
+            expect(module.string, self.memory.word(entry + 8)?)?;
+        }
+        demand(next == u64::from(self.plan.block.end), "block's end")
+    }
+
+    /// No two parts share a byte, and no byte outside of them changed.
+    fn rest(&self) -> Result<(), String> {
+        let segment = self.plan.segments[0];
+        let kernel = Extent { start: segment.start, end: segment.extent_end };
+        let mut parts = vec![kernel, self.plan.block];
+        parts.extend(self.placed_modules().map(|(_, place)| place));
+        parts.sort_by_key(|part| part.start);
+        let apart = |two: &[Extent]| two[0].end <= two[1].start;
+        demand(parts.windows(2).all(apart), "parts that share a byte")?;
+        let (before, after) = (&self.case.window, self.memory.bytes);
+        let unchanged = |from: usize, to: usize| before[from..to] == after[from..to];
+        let offset = |address: u32| (u64::from(address) - self.memory.first) as usize;
+        let mut from = 0;
+        for part in parts {
+            demand(unchanged(from, offset(part.start)), "bytes between")?;
+            from = offset(part.end);
+        }
+        demand(unchanged(from, after.len()), "bytes behind")
+    }
 }
