@@ -3,6 +3,7 @@
 use crate::bytes::u32_at;
 use crate::case::Case;
 use crate::handover;
+use crate::layout::information;
 use crate::naive::{self, Board};
 use crate::plan::{Loader, Plan, Words};
 use crate::second;
@@ -100,7 +101,7 @@ impl NaiveView {
         let block = (plan.block.start - self.board.window.start as u32) as usize;
         let size = |offset: usize| u64::from(u32_at(&outcome.window, block + offset));
         let (lower, upper) = self.board.memory_sizes();
-        if (size(4), size(8)) != (lower, upper) {
+        if (size(information::MEM_LOWER), size(information::MEM_UPPER)) != (lower, upper) {
             return Err(format!("address by address the sizes are {lower} and {upper}"));
         }
         Ok(())

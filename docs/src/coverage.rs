@@ -3,6 +3,7 @@
 use crate::bytes::u32_at;
 use crate::case::Case;
 use crate::compare::{run, Outcome};
+use crate::layout::information;
 use crate::limits::{
     ADDRESS_SPACE, FLOOR, HEADER_MAGIC, MAX_LINE, MAX_MAP, MAX_MODULES, MAX_PAIRS, PAGE, TOP,
 };
@@ -206,7 +207,7 @@ fn load_edges(case: &Case, request: &Request, plan: &Plan, outcome: &Outcome) ->
     let sum = word(header) + word(header + 4) + word(header + 8);
     let magic = HEADER_MAGIC.to_le_bytes();
     let earlier = (0..header).any(|at| image[at..].starts_with(&magic));
-    let mem_lower = (plan.block.start - case.first) as usize + 4;
+    let mem_lower = (plan.block.start - case.first) as usize + information::MEM_LOWER;
     let mem_lower = u32_at(&outcome.window, mem_lower);
     let below = u64::from(plan.segments[0].start) < FLOOR;
     chosen(&[

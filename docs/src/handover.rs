@@ -4,9 +4,23 @@
 use crate::bytes::u32_at;
 use crate::case::Case;
 use crate::compare::Outcome;
+use crate::layout::{header, information};
 use crate::limits::{BOOT_MAGIC, FLOOR, LOADER_NAME, MODULE_ENTRY, PAGE, STRUCTURE, WORD};
 use crate::plan::{Extent, Plan, Segment};
 use crate::second::submission::{Module, Submission};
+
+/// The fields of the information structure that are given.
+const GIVEN: [usize; 9] = [
+    information::FLAGS,
+    information::MEM_LOWER,
+    information::MEM_UPPER,
+    information::CMDLINE,
+    information::MODS_COUNT,
+    information::MODS_ADDR,
+    information::MMAP_LENGTH,
+    information::MMAP_ADDR,
+    information::BOOT_LOADER_NAME,
+];
 
 /// Says what in a load is not as it should be.
 pub fn check(case: &Case, plan: &Plan, outcome: &Outcome) -> Result<(), String> {
@@ -72,8 +86,8 @@ fn demand(holds: bool, what: &str) -> Result<(), String> {
 
 impl<'a> Load<'a> {
     /// A word of the header that the plan names.
-    fn header_word(&self, offset: u32) -> Result<u32, String> {
-        let at = self.plan.header_offset.saturating_add(offset) as usize;
+    fn header_word(&self, offset: usize) -> Result<u32, String> {
+        let at = self.plan.header_offset as usize + offset;
         let bytes = self.submission.image.get(at..at + 4);
         Ok(u32_at(bytes.ok_or("the header is not in the image")?, 0))
     }
@@ -97,12 +111,12 @@ impl<'a> Load<'a> {
         let (plan, segment) = (self.plan, self.plan.segments[0]);
         let loaded = self.memory.part(u64::from(segment.start), u64::from(segment.load_end))?;
         let bss = self.memory.part(u64::from(segment.load_end), u64::from(segment.extent_end))?;
-        let distance = i64::from(self.header_word(12)?) - i64::from(segment.start);
+        let distance = i64::from(self.header_word(header::HEADER_ADDR)?) - i64::from(segment.start);
         let from = usize::try_from(i64::from(plan.header_offset) - distance);
         let image = self.submission.image.get(from.unwrap_or(usize::MAX)..);
         demand(image.is_some_and(|i| i.starts_with(loaded)), "load bytes")?;
         demand(bss.iter().all(|&byte| byte == 0), "bss")?;
-        let entry = self.header_word(28)?;
+        let entry = self.header_word(header::ENTRY_ADDR)?;
         let inside = (segment.start..segment.load_end).contains(&entry);
         demand(plan.entry == entry && inside, "entry")?;
         let others = &plan.segments[1..];
@@ -111,7 +125,7 @@ impl<'a> Load<'a> {
 
     /// Each module's data stands whole at a boundary from 1 MiB up.
     fn modules(&self) -> Result<(), String> {
-        let flags = self.header_word(4)?;
+        let flags = self.header_word(header::FLAGS)?;
         let boundary = if flags & 1 == 1 { PAGE } else { WORD };
         for (module, place) in self.placed_modules() {
             let start = u64::from(place.start);
@@ -123,8 +137,8 @@ impl<'a> Load<'a> {
     }
 
     /// A word of the information structure.
-    fn field(&self, offset: u64) -> Result<u64, String> {
-        self.memory.word(u64::from(self.plan.ebx) + offset)
+    fn field(&self, offset: usize) -> Result<u64, String> {
+        self.memory.word(u64::from(self.plan.ebx) + offset as u64)
     }
 
     /// The structure's flags and counts, and zeros in every field that is not given.
@@ -134,14 +148,13 @@ impl<'a> Load<'a> {
         demand(self.plan.ebx == self.plan.block.start, "EBX")?;
         demand(ebx >= FLOOR && ebx % WORD == 0, "block's boundary")?;
         let flags = if self.command_line().is_empty() { 0x249 } else { 0x24D };
-        demand(self.field(0)? == flags, "flags")?;
+        demand(self.field(information::FLAGS)? == flags, "flags")?;
         let count = self.submission.modules.len() as u64;
-        demand(self.field(20)? == count, "mods_count")?;
-        demand(self.field(24)? == ebx + STRUCTURE, "mods_addr")?;
+        demand(self.field(information::MODS_COUNT)? == count, "mods_count")?;
+        demand(self.field(information::MODS_ADDR)? == ebx + STRUCTURE, "mods_addr")?;
         let length = self.case.map.len() as u64;
-        demand(self.field(44)? == length, "mmap_length")?;
-        let given = [0, 4, 8, 16, 20, 24, 44, 48, 64];
-        for offset in (0..STRUCTURE).step_by(4).filter(|at| !given.contains(at)) {
+        demand(self.field(information::MMAP_LENGTH)? == length, "mmap_length")?;
+        for offset in (0..STRUCTURE as usize).step_by(4).filter(|at| !GIVEN.contains(at)) {
             demand(self.field(offset)? == 0, "fields not given")?;
         }
         Ok(())
@@ -149,7 +162,7 @@ impl<'a> Load<'a> {
 
     /// Each entry tells the module's place and its string.
     fn module_entries(&self) -> Result<(), String> {
-        let mut entry = self.field(24)?;
+        let mut entry = self.field(information::MODS_ADDR)?;
         for (module, place) in self.placed_modules() {
             let word = |offset: u64| self.memory.word(entry + offset);
             demand(word(0)? == u64::from(place.start), "mod_start")?;
@@ -171,7 +184,7 @@ impl<'a> Load<'a> {
         let mods_addr = u64::from(self.plan.ebx) + STRUCTURE;
         let entries = (mods_addr..).step_by(MODULE_ENTRY as usize);
         let mut next = mods_addr + MODULE_ENTRY * self.submission.modules.len() as u64;
-        demand(self.field(48)? == next, "mmap_addr")?;
+        demand(self.field(information::MMAP_ADDR)? == next, "mmap_addr")?;
         let end = next + self.case.map.len() as u64;
         demand(self.memory.part(next, end)? == self.case.map, "map")?;
         next = end;
@@ -184,8 +197,8 @@ impl<'a> Load<'a> {
             }
             Ok::<(), String>(())
         };
-        expect(LOADER_NAME, self.field(64)?)?;
-        expect(self.command_line(), self.field(16)?)?;
+        expect(LOADER_NAME, self.field(information::BOOT_LOADER_NAME)?)?;
+        expect(self.command_line(), self.field(information::CMDLINE)?)?;
         for (module, entry) in self.submission.modules.iter().zip(entries) {
             expect(module.string, self.memory.word(entry + 8)?)?;
         }

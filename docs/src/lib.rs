@@ -1,7 +1,8 @@
 //! The host side of viertompu: a second loader of Multiboot 0.6.93 kernels, written from the
 //! rules alone, and the means to hold another loader against it.
 //!
-//! - [`limits`], [`bytes`], [`pair`]: the numbers of the rules, little-endian numbers, map pairs
+//! - [`limits`], [`layout`]: the numbers of the rules, and where the fields of its formats stand
+//! - [`bytes`], [`pair`], [`rng`]: little-endian numbers, map pairs, seeded random numbers
 //! - [`plan`]: what a loader answers, as types and as 96 words
 //! - [`second`]: the second loader; it places items by sets of spans
 //! - [`naive`]: usable, open and placing decided one address at a time, for small boards
@@ -20,6 +21,7 @@ pub mod compare;
 pub mod coverage;
 pub mod generate;
 pub mod handover;
+pub mod layout;
 pub mod limits;
 pub mod naive;
 pub mod pair;

@@ -4,6 +4,7 @@ use viertompu_host::bench_cases::b1;
 use viertompu_host::bytes::{put_u32, u32_at};
 use viertompu_host::case::Case;
 use viertompu_host::compare::{run, same, sound};
+use viertompu_host::layout::information;
 use viertompu_host::plan::{Loader, Plan, Refusal, Words};
 use viertompu_host::{generate, review, second};
 
@@ -59,11 +60,11 @@ fn invents(field: usize, case: &Case, window: &mut [u8]) -> Words {
 }
 
 fn invents_mem_upper(case: &Case, window: &mut [u8]) -> Words {
-    invents(8, case, window)
+    invents(information::MEM_UPPER, case, window)
 }
 
 fn invents_mods_count(case: &Case, window: &mut [u8]) -> Words {
-    invents(20, case, window)
+    invents(information::MODS_COUNT, case, window)
 }
 
 fn writes_before_it_refuses(case: &Case, window: &mut [u8]) -> Words {

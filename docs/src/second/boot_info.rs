@@ -4,6 +4,7 @@ use super::memory::{mem_lower, mem_upper};
 use super::spans::Span;
 use super::{word, Layout, Request};
 use crate::bytes::put_u32;
+use crate::layout::information;
 use crate::limits::{LOADER_NAME, MODULE_ENTRY, STRUCTURE};
 
 /// Memory sizes, modules, memory map and loader name are always given.
@@ -90,15 +91,16 @@ impl<'a> BootInfo<'a> {
             _ => FLAGS | FLAG_COMMAND_LINE,
         };
         let mut bytes = vec![0; STRUCTURE as usize];
-        put_u32(&mut bytes, 0, flags);
-        put_u32(&mut bytes, 4, word(mem_lower(&usable)));
-        put_u32(&mut bytes, 8, word(mem_upper(&usable)));
-        put_u32(&mut bytes, 16, command_line);
-        put_u32(&mut bytes, 20, word(self.modules.len() as u64));
-        put_u32(&mut bytes, 24, word(self.mods_addr()));
-        put_u32(&mut bytes, 44, word(self.request.map.bytes.len() as u64));
-        put_u32(&mut bytes, 48, word(self.mmap_addr()));
-        put_u32(&mut bytes, 64, name);
+        let mut put = |field: usize, value: u32| put_u32(&mut bytes, field, value);
+        put(information::FLAGS, flags);
+        put(information::MEM_LOWER, word(mem_lower(&usable)));
+        put(information::MEM_UPPER, word(mem_upper(&usable)));
+        put(information::CMDLINE, command_line);
+        put(information::MODS_COUNT, word(self.modules.len() as u64));
+        put(information::MODS_ADDR, word(self.mods_addr()));
+        put(information::MMAP_LENGTH, word(self.request.map.bytes.len() as u64));
+        put(information::MMAP_ADDR, word(self.mmap_addr()));
+        put(information::BOOT_LOADER_NAME, name);
         bytes
     }
 

@@ -2,6 +2,7 @@
 
 use super::spans::Span;
 use crate::bytes::u32_at;
+use crate::layout::header;
 use crate::limits::{FULL_HEADER, HEADER_MAGIC, SEARCH_LIMIT, SHORT_HEADER};
 use crate::plan::Refusal;
 
@@ -35,7 +36,7 @@ struct AddressFields {
 impl<'a> Kernel<'a> {
     pub fn read(image: &'a [u8]) -> Result<Self, Refusal> {
         let header_offset = find_header(image).ok_or(Refusal::NoHeader)?;
-        let flags = u32_at(image, header_offset.0 as usize + 4);
+        let flags = u32_at(image, header_offset.0 as usize + header::FLAGS);
         let fields = AddressFields::read(image, header_offset, flags)?;
         let load_offset = load_offset(&fields, header_offset).ok_or(Refusal::LoadOutsideImage)?;
         let length = load_length(&fields, load_offset, image.len() as u64)?;
@@ -72,8 +73,8 @@ fn find_header(image: &[u8]) -> Option<ImageOffset> {
     let searched = &image[..image.len().min(SEARCH_LIMIT)];
     let is_header = |at: &usize| {
         let magic = u32_at(searched, *at);
-        let flags = u32_at(searched, *at + 4);
-        let checksum = u32_at(searched, *at + 8);
+        let flags = u32_at(searched, at + header::FLAGS);
+        let checksum = u32_at(searched, at + header::CHECKSUM);
         magic == HEADER_MAGIC && magic.wrapping_add(flags).wrapping_add(checksum) == 0
     };
     let last = searched.len().checked_sub(SHORT_HEADER)?;
@@ -83,24 +84,24 @@ fn find_header(image: &[u8]) -> Option<ImageOffset> {
 
 impl AddressFields {
     /// The fields behind the flags and the checksum (checks 7 to 9).
-    fn read(image: &[u8], header: ImageOffset, flags: u32) -> Result<Self, Refusal> {
+    fn read(image: &[u8], offset: ImageOffset, flags: u32) -> Result<Self, Refusal> {
         if flags & DEMANDS_UNKNOWN != 0 {
             return Err(Refusal::UnknownDemand);
         }
         if flags & ADDRESS_FIELDS == 0 {
             return Err(Refusal::NoAddressFields);
         }
-        let at = header.0 as usize;
+        let at = offset.0 as usize;
         if at + FULL_HEADER > SEARCH_LIMIT || at + FULL_HEADER > image.len() {
             return Err(Refusal::HeaderCutOff);
         }
-        let field = |index: usize| u64::from(u32_at(image, at + SHORT_HEADER + 4 * index));
+        let field = |offset: usize| u32_at(image, at + offset);
         Ok(AddressFields {
-            header: field(0),
-            load: field(1),
-            load_end: field(2),
-            bss_end: field(3),
-            entry: u32_at(image, at + SHORT_HEADER + 16),
+            header: field(header::HEADER_ADDR).into(),
+            load: field(header::LOAD_ADDR).into(),
+            load_end: field(header::LOAD_END_ADDR).into(),
+            bss_end: field(header::BSS_END_ADDR).into(),
+            entry: field(header::ENTRY_ADDR),
         })
     }
 }

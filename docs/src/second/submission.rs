@@ -1,6 +1,7 @@
 //! Reading a submission (checks 1 and 2).
 
 use crate::bytes::{u16_at, u32_at};
+use crate::layout::{submission, table_entry};
 use crate::limits::{MAX_LINE, MAX_MODULES, MAX_STRING, PREFIX, TABLE_ENTRY};
 use crate::plan::Refusal;
 
@@ -21,7 +22,10 @@ pub struct Module<'a> {
 
 impl<'a> Submission<'a> {
     pub fn read(bytes: &'a [u8]) -> Result<Self, Refusal> {
-        if bytes.len() < PREFIX || !bytes.starts_with(MARK) || u16_at(bytes, 3) != VERSION {
+        if bytes.len() < PREFIX
+            || !bytes.starts_with(MARK)
+            || u16_at(bytes, submission::VERSION) != VERSION
+        {
             return Err(Refusal::NotASubmission);
         }
         Self::read_parts(bytes).ok_or(Refusal::BadSubmission)
@@ -30,9 +34,9 @@ impl<'a> Submission<'a> {
     /// The parts, or nothing where a rule of the format is broken.
     fn read_parts(bytes: &'a [u8]) -> Option<Self> {
         let (prefix, mut rest) = bytes.split_at(PREFIX);
-        let count = usize::from(prefix[5]);
-        let image_length = u32_at(prefix, 6) as usize;
-        let line_length = usize::from(u16_at(prefix, 10));
+        let count = usize::from(prefix[submission::MODULE_COUNT]);
+        let image_length = u32_at(prefix, submission::IMAGE_LENGTH) as usize;
+        let line_length = usize::from(u16_at(prefix, submission::LINE_LENGTH));
         if count > MAX_MODULES || line_length > MAX_LINE {
             return None;
         }
@@ -59,9 +63,9 @@ fn cut_text<'a>(rest: &mut &'a [u8], length: usize) -> Option<&'a [u8]> {
 
 /// Takes a module's data and string off the front, as its table entry says.
 fn cut_module<'a>(rest: &mut &'a [u8], entry: &[u8]) -> Option<Module<'a>> {
-    let data_length = u32_at(entry, 0) as usize;
-    let string_length = usize::from(u16_at(entry, 4));
-    if data_length == 0 || string_length > MAX_STRING || u16_at(entry, 6) != 0 {
+    let data_length = u32_at(entry, table_entry::DATA_LENGTH) as usize;
+    let string_length = usize::from(u16_at(entry, table_entry::STRING_LENGTH));
+    if data_length == 0 || string_length > MAX_STRING || u16_at(entry, table_entry::ZERO) != 0 {
         return None;
     }
     let data = cut(rest, data_length)?;
