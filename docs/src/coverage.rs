@@ -5,7 +5,8 @@ use crate::case::Case;
 use crate::compare::{run, Outcome};
 use crate::layout::information;
 use crate::limits::{
-    ADDRESS_SPACE, FLOOR, HEADER_MAGIC, MAX_LINE, MAX_MAP, MAX_MODULES, MAX_PAIRS, PAGE, TOP,
+    ADDRESS_SPACE, FLOOR, HEADER_MAGIC, MAX_LINE, MAX_MAP, MAX_MEM_LOWER, MAX_MODULES, MAX_PAIRS,
+    MIN_PAIR_SIZE, PAGE, TOP, USABLE,
 };
 use crate::naive::Board;
 use crate::pair::{map_bytes, pairs, Pair};
@@ -175,17 +176,17 @@ fn window_edges(case: &Case) -> Vec<&'static str> {
 /// Edges of a sound map.
 fn map_edges(map: &[u8]) -> Vec<&'static str> {
     let pairs = pairs(map);
-    let usable = |pair: &&Pair| pair.kind == 1 && pair.length > 0;
+    let usable = |pair: &&Pair| pair.kind == USABLE && pair.length > 0;
     let usable: Vec<&Pair> = pairs.iter().filter(usable).collect();
     let some_two = |test: fn(&Pair, &Pair) -> bool| {
         let others = |i: usize| usable.iter().enumerate().filter(move |(j, _)| *j != i);
         let meets = |(i, a): (usize, &&Pair)| others(i).any(|(_, b)| test(a, b));
         usable.iter().enumerate().any(meets)
     };
-    let reserved = pairs.iter().filter(|pair| pair.kind != 1 && pair.length > 0);
+    let reserved = pairs.iter().filter(|pair| pair.kind != USABLE && pair.length > 0);
     let lost = |r: &Pair| usable.iter().any(|u| overlap(u, r));
     chosen(&[
-        (pairs.iter().any(|p| p.size > 20), "map with a pair size above 20"),
+        (pairs.iter().any(|p| p.size as usize > MIN_PAIR_SIZE), "map with a pair size above 20"),
         (pairs.len() == MAX_PAIRS, "map of 32 pairs"),
         (map.len() == MAX_MAP, "map of 4096 bytes"),
         (pairs.iter().any(|p| p.end() > 1 << 32), "map with a sum past 2^32"),
@@ -217,7 +218,7 @@ fn load_edges(case: &Case, request: &Request, plan: &Plan, outcome: &Outcome) ->
         (below, "loaded with the kernel below 1 MiB"),
         (request.kernel.page_aligned, "loaded with page boundaries"),
         (case.operator.len() == MAX_LINE, "loaded with an operator's line of 255 bytes"),
-        (mem_lower == 640, "loaded with mem_lower 640"),
+        (u64::from(mem_lower) == MAX_MEM_LOWER, "loaded with mem_lower 640"),
     ])
 }
 
@@ -237,7 +238,7 @@ fn gap_edges(case: &Case, request: &Request, plan: &Plan) -> Vec<&'static str> {
 /// Does the answer change once each usable pair and the window end a byte later?
 fn one_byte_short(case: &Case, outcome: &Outcome) -> bool {
     let mut longer = pairs(&case.map);
-    for pair in longer.iter_mut().filter(|pair| pair.kind == 1) {
+    for pair in longer.iter_mut().filter(|pair| pair.kind == USABLE) {
         pair.length = pair.length.saturating_add(1);
     }
     let mut more = Case { map: map_bytes(&longer), ..case.clone() };

@@ -5,7 +5,10 @@ use crate::bytes::u32_at;
 use crate::case::Case;
 use crate::compare::Outcome;
 use crate::layout::{header, information};
-use crate::limits::{BOOT_MAGIC, FLOOR, LOADER_NAME, MODULE_ENTRY, PAGE, STRUCTURE, WORD};
+use crate::limits::{
+    BOOT_MAGIC, FLOOR, INFO_CMDLINE, INFO_FLAGS, LOADER_NAME, MODULE_ENTRY, PAGE, PAGE_ALIGNED,
+    STRUCTURE, WORD,
+};
 use crate::plan::{Extent, Plan, Segment};
 use crate::second::submission::{Module, Submission};
 
@@ -126,7 +129,7 @@ impl<'a> Load<'a> {
     /// Each module's data stands whole at a boundary from 1 MiB up.
     fn modules(&self) -> Result<(), String> {
         let flags = self.header_word(header::FLAGS)?;
-        let boundary = if flags & 1 == 1 { PAGE } else { WORD };
+        let boundary = if flags & PAGE_ALIGNED != 0 { PAGE } else { WORD };
         for (module, place) in self.placed_modules() {
             let start = u64::from(place.start);
             demand(start >= FLOOR && start % boundary == 0, "module's boundary")?;
@@ -147,7 +150,8 @@ impl<'a> Load<'a> {
         demand(self.plan.eax == BOOT_MAGIC, "EAX")?;
         demand(self.plan.ebx == self.plan.block.start, "EBX")?;
         demand(ebx >= FLOOR && ebx % WORD == 0, "block's boundary")?;
-        let flags = if self.command_line().is_empty() { 0x249 } else { 0x24D };
+        let with_line = if self.command_line().is_empty() { 0 } else { INFO_CMDLINE };
+        let flags = u64::from(INFO_FLAGS | with_line);
         demand(self.field(information::FLAGS)? == flags, "flags")?;
         let count = self.submission.modules.len() as u64;
         demand(self.field(information::MODS_COUNT)? == count, "mods_count")?;

@@ -25,7 +25,15 @@ pub const MAX_MAP: usize = 4096;
 pub const MAX_PAIRS: usize = 32;
 /// The least value of a pair's size field: base, length and type.
 pub const MIN_PAIR_SIZE: usize = 20;
+/// The type of a pair that is usable if no other pair denies it.
+pub const USABLE: u32 = 1;
+/// The low memory of the review program's board.
+pub const LOW_MEMORY: u64 = 0x9_FC00;
 
+/// A submission's first bytes.
+pub const MARK: &[u8] = b"KSB";
+/// The version of the submission's format.
+pub const VERSION: u16 = 1;
 /// The bytes before a submission's module table.
 pub const PREFIX: usize = 12;
 /// The bytes of one entry of a submission's module table.
@@ -39,14 +47,24 @@ pub const SHORT_HEADER: usize = 12;
 pub const FULL_HEADER: usize = 32;
 /// The header's first word.
 pub const HEADER_MAGIC: u32 = 0x1BAD_B002;
+/// The header's flag that asks for modules on page boundaries.
+pub const PAGE_ALIGNED: u32 = 1;
+/// The header's flag that announces the address fields.
+pub const ADDRESS_FIELDS: u32 = 1 << 16;
 
 /// EAX at the hand-over.
 pub const BOOT_MAGIC: u32 = 0x2BAD_B002;
+/// The information structure's flags: memory sizes, modules, memory map and loader name.
+pub const INFO_FLAGS: u32 = 0x249;
+/// Its flag for a command line.
+pub const INFO_CMDLINE: u32 = 0x4;
 /// The bytes of the information structure.
 pub const STRUCTURE: u64 = 88;
 /// The bytes of one module entry of the information block.
 pub const MODULE_ENTRY: u64 = 16;
 /// The loader's name, without its final zero.
 pub const LOADER_NAME: &[u8] = b"shelf 1";
+/// The addresses that one unit of mem_lower and mem_upper stands for.
+pub const MEM_UNIT: u64 = 1024;
 /// The greatest value of mem_lower.
 pub const MAX_MEM_LOWER: u64 = 640;

@@ -2,7 +2,7 @@
 //! quick only for small ones. It shares no code with the second loader's placing.
 
 use crate::case::Case;
-use crate::limits::{ADDRESS_SPACE, FLOOR, MAX_MEM_LOWER};
+use crate::limits::{ADDRESS_SPACE, FLOOR, MAX_MEM_LOWER, MEM_UNIT, USABLE};
 use crate::pair::{pairs, Pair};
 use crate::plan::Refusal;
 use std::ops::Range;
@@ -24,7 +24,7 @@ impl Board {
 
     /// About how many times a pair is asked about an address in all questions together.
     pub fn cost(&self) -> u128 {
-        let usable = self.pairs.iter().filter(|pair| pair.kind == 1);
+        let usable = self.pairs.iter().filter(|pair| pair.kind == USABLE);
         let longest = u128::from(ADDRESS_SPACE);
         let walk: u128 = usable.map(|pair| longest.min(pair.length.into())).sum();
         let window = u128::from(self.window.end - self.window.start);
@@ -33,8 +33,8 @@ impl Board {
 
     pub fn usable(&self, address: u64) -> bool {
         let covers = |pair: &Pair| pair.covers(address);
-        let mut ram = self.pairs.iter().filter(|pair| pair.kind == 1);
-        let mut other = self.pairs.iter().filter(|pair| pair.kind != 1);
+        let mut ram = self.pairs.iter().filter(|pair| pair.kind == USABLE);
+        let mut other = self.pairs.iter().filter(|pair| pair.kind != USABLE);
         address < ADDRESS_SPACE && ram.any(covers) && !other.any(covers)
     }
 
@@ -45,7 +45,7 @@ impl Board {
     /// mem_lower and mem_upper.
     pub fn memory_sizes(&self) -> (u64, u64) {
         let run = |from: u64| (from..).take_while(|&a| self.usable(a)).count() as u64;
-        ((run(0) / 1024).min(MAX_MEM_LOWER), run(FLOOR) / 1024)
+        ((run(0) / MEM_UNIT).min(MAX_MEM_LOWER), run(FLOOR) / MEM_UNIT)
     }
 
     /// The starts of the modules and of the block, or the refusal from 15 on that applies.

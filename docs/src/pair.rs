@@ -6,7 +6,7 @@ use crate::limits::MIN_PAIR_SIZE;
 /// What stands in a pair behind base, length and type.
 const BEHIND: u8 = 0xEE;
 
-/// One pair. A size other than 20 is the count of bytes behind the size field.
+/// One pair; its size counts the bytes behind the size field.
 #[derive(Clone, Copy, Debug, PartialEq, Eq)]
 pub struct Pair {
     pub size: u32,

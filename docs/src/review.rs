@@ -2,7 +2,7 @@
 
 use crate::case::Case;
 use crate::compare::run;
-use crate::limits::FLOOR;
+use crate::limits::{FLOOR, LOW_MEMORY, USABLE};
 use crate::pair::{map_bytes, Pair};
 use crate::plan::{Loader, Plan, Words};
 use crate::second::submission::Submission;
@@ -13,8 +13,8 @@ pub const MAX_INPUT: usize = 12_288;
 const WINDOW: usize = 48 * 1024;
 
 /// The review program's map: usable low memory and 7 MiB from 1 MiB up.
-pub fn map() -> Vec<u8> {
-    map_bytes(&[Pair::new(0, 0x9FC00, 1), Pair::new(FLOOR, 0x70_0000, 1)])
+pub fn pairs() -> [Pair; 2] {
+    [Pair::new(0, LOW_MEMORY, USABLE), Pair::new(FLOOR, 0x70_0000, USABLE)]
 }
 
 /// A submission on the review program's board, its window all zeros.
@@ -23,7 +23,7 @@ pub fn case(submission: &[u8]) -> Case {
         name: "on the review program's board".to_string(),
         submission: submission.to_vec(),
         operator: Vec::new(),
-        map: map(),
+        map: map_bytes(&pairs()),
         window: vec![0; WINDOW],
         first: FLOOR as u32,
     }

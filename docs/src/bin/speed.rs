@@ -8,13 +8,16 @@ use std::time::{Duration, Instant};
 use viertompu_host::case::Case;
 use viertompu_host::compare::others;
 use viertompu_host::generate::draft::{pattern, Draft, Header, Module};
-use viertompu_host::limits::{FLOOR, MAX_MODULES, MAX_PAIRS};
+use viertompu_host::limits::{
+    ADDRESS_FIELDS, FLOOR, FULL_HEADER, LOW_MEMORY, MAX_MODULES, MAX_PAIRS, PAGE_ALIGNED,
+    SEARCH_LIMIT, USABLE,
+};
 use viertompu_host::pair::Pair;
 use viertompu_host::plan::Plan;
 use viertompu_host::second::{self, submission::Submission};
 
 const MIB: usize = 1 << 20;
-const HEADER: usize = 8160;
+const HEADER: usize = SEARCH_LIMIT - FULL_HEADER;
 const MODULE: usize = 64 * 1024;
 const BSS: u32 = 64 * 1024;
 const ROUNDS: usize = 51;
@@ -50,7 +53,7 @@ fn case() -> Case {
         filler: pattern(0, 4 * MIB),
         header: Header {
             offset: HEADER,
-            flags: 0x1_0003,
+            flags: ADDRESS_FIELDS | PAGE_ALIGNED,
             header_addr: load_addr + HEADER as u32,
             load_addr,
             bss_end_addr: load_end + BSS,
@@ -71,8 +74,8 @@ fn case() -> Case {
 fn map() -> Vec<Pair> {
     let count = MAX_PAIRS as u64 - 1;
     let length = 8 * MIB as u64 / count + 1;
-    let part = |index: u64| Pair::new(FLOOR + index * length, length, 1);
-    let mut pairs = vec![Pair::new(0, 0x9_FC00, 1)];
+    let part = |index: u64| Pair::new(FLOOR + index * length, length, USABLE);
+    let mut pairs = vec![Pair::new(0, LOW_MEMORY, USABLE)];
     pairs.extend((0..count).map(part));
     pairs
 }

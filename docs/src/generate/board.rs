@@ -1,6 +1,6 @@
 //! Boards: a map, a window and a load address for a kernel and items of known lengths.
 
-use crate::limits::{FLOOR, PAGE, TOP};
+use crate::limits::{ADDRESS_SPACE, FLOOR, LOW_MEMORY, PAGE, TOP, USABLE};
 use crate::pair::Pair;
 use crate::rng::Rng;
 use std::ops::Range;
@@ -62,7 +62,7 @@ pub fn fitted(rng: &mut Rng, needs: &Needs) -> Board {
     }
     let mut pairs = match rng.below(3) {
         0 => wide_with_gaps(rng, &holes),
-        _ => holes.iter().map(|h| pair_of(h.start, h.end, 1)).collect(),
+        _ => holes.iter().map(|h| pair_of(h.start, h.end, USABLE)).collect(),
     };
     pad(rng, &mut pairs, needs.pairs, &window);
     Board { pairs, load_addr, window }
@@ -104,7 +104,7 @@ fn trim(rng: &mut Rng, hole: &mut Hole) {
 /// One usable region over all holes, and reserved ones over what lies between them.
 fn wide_with_gaps(rng: &mut Rng, holes: &[Hole]) -> Vec<Pair> {
     let (low, high) = (holes[0].start, holes[holes.len() - 1].end);
-    let mut pairs = vec![pair_of(low, high, 1)];
+    let mut pairs = vec![pair_of(low, high, USABLE)];
     for two in holes.windows(2) {
         if two[0].end < two[1].start {
             pairs.push(pair_of(two[0].end, two[1].start, rng.pick(&RESERVED)));
@@ -137,8 +137,8 @@ pub fn roomy(rng: &mut Rng, needs: &Needs) -> Board {
     let window = low..low + room;
     let lead = rng.pick(&[0, 0, 1, 4, 100, room / 2]);
     let base = low.saturating_sub(rng.below(2000));
-    let beyond = rng.pick(&[0, 1, 500, 0x70_0000, 1 << 32, u64::MAX - window.end]);
-    let mut pairs = vec![pair_of(base, window.end + beyond, 1)];
+    let beyond = rng.pick(&[0, 1, 500, 0x70_0000, ADDRESS_SPACE, u64::MAX - window.end]);
+    let mut pairs = vec![pair_of(base, window.end + beyond, USABLE)];
     if needs.pairs > 1 && rng.one_in(3) {
         let at = low + rng.below(room);
         pairs.push(Pair::new(at, rng.below(20), rng.pick(&RESERVED)));
@@ -156,12 +156,12 @@ pub fn scattered(rng: &mut Rng, needs: &Needs) -> Board {
     };
     let low = origin(rng, length + 3000);
     let window = low..low + length;
-    let mut pairs = vec![Pair::new(low, length, 1)];
+    let mut pairs = vec![Pair::new(low, length, USABLE)];
     while pairs.len() < needs.pairs {
         let base = (low + rng.below(length + 400)).saturating_sub(200);
         let reach = rng.pick(&[1, 16, 300, length + 1]);
         let reserved = rng.pick(&RESERVED);
-        let kind = rng.pick(&[1, 1, reserved]);
+        let kind = rng.pick(&[USABLE, USABLE, reserved]);
         pairs.push(Pair::new(base, rng.below(reach + 1), kind));
     }
     rng.shuffle(&mut pairs);
@@ -200,15 +200,15 @@ fn split(rng: &mut Rng, pairs: &mut Vec<Pair>) {
 /// the window.
 fn far_pair(rng: &mut Rng, window: &Range<u64>) -> Pair {
     let length = window.end.saturating_sub(window.start);
-    let kind = rng.pick(&[1, 2, 3]);
+    let kind = rng.pick(&[USABLE, 2, 3]);
     match rng.below(10) {
-        0..=3 => Pair::new(0, low_memory(rng), 1),
+        0..=3 => Pair::new(0, low_memory(rng), USABLE),
         4 => Pair::new(u64::MAX, 2, kind),
         5 => Pair::new(u64::MAX - 4095, 4096 + rng.below(window.end + 2), kind),
-        6 => Pair::new((1 << 32) + window.start, length, kind),
-        7 => Pair::new((1 << 32) - rng.below(2), rng.pick(&[0, 1, 2, 1 << 32]), kind),
+        6 => Pair::new(ADDRESS_SPACE + window.start, length, kind),
+        7 => Pair::new(ADDRESS_SPACE - rng.below(2), rng.pick(&[0, 1, 2, ADDRESS_SPACE]), kind),
         8 => Pair::new(window.start + rng.below(length + 1), 0, kind),
-        _ => Pair::new(0x9_FC00, 0x6_0400, 2),
+        _ => Pair::new(LOW_MEMORY, FLOOR - LOW_MEMORY, 2),
     }
 }
 
@@ -217,7 +217,7 @@ fn low_memory(rng: &mut Rng) -> u64 {
     match rng.below(8) {
         0..=3 => rng.below(4000),
         4 => rng.pick(&[0, 1, 1023, 1024, 1025, 2047, 2048]),
-        5 => 0x9_FC00,
+        5 => LOW_MEMORY,
         6 => rng.pick(&[0x9_FFFF, 0xA_0000, 0xA_0400]),
         _ => rng.pick(&[0xF_FFFF, 0x10_0000]),
     }

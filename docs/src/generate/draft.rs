@@ -2,7 +2,7 @@
 //! any rule.
 
 use crate::case::Case;
-use crate::limits::HEADER_MAGIC;
+use crate::limits::{HEADER_MAGIC, MARK, SHORT_HEADER, VERSION};
 use crate::pair::{map_bytes, Pair};
 
 /// A header's place in the image and its fields.
@@ -54,6 +54,31 @@ pub struct Module {
     pub string: Vec<u8>,
 }
 
+/// Mark and version.
+pub fn mark() -> Vec<u8> {
+    [MARK, &VERSION.to_le_bytes()].concat()
+}
+
+/// A submission's bytes.
+pub fn submission(image: &[u8], line: &[u8], modules: &[Module]) -> Vec<u8> {
+    let mut bytes = mark();
+    bytes.push(modules.len() as u8);
+    bytes.extend_from_slice(&(image.len() as u32).to_le_bytes());
+    bytes.extend_from_slice(&(line.len() as u16).to_le_bytes());
+    for module in modules {
+        bytes.extend_from_slice(&(module.data.len() as u32).to_le_bytes());
+        bytes.extend_from_slice(&(module.string.len() as u16).to_le_bytes());
+        bytes.extend_from_slice(&[0, 0]);
+    }
+    bytes.extend_from_slice(image);
+    bytes.extend_from_slice(line);
+    for module in modules {
+        bytes.extend_from_slice(&module.data);
+        bytes.extend_from_slice(&module.string);
+    }
+    bytes
+}
+
 /// A submission, its lines and its board.
 #[derive(Clone, Debug, Default)]
 pub struct Draft {
@@ -73,40 +98,21 @@ pub struct Draft {
 }
 
 impl Draft {
+    /// The filler under decoys and header.
     fn image(&self) -> Vec<u8> {
         let mut image = self.filler.clone();
         for &offset in &self.decoys {
             let decoy = Header { checksum_off_by: u32::from(offset % 4 == 0), ..Header::default() };
-            overlay(&mut image, offset, &decoy.bytes()[..12]);
+            overlay(&mut image, offset, &decoy.bytes()[..SHORT_HEADER]);
         }
         overlay(&mut image, self.header.offset, &self.header.bytes());
         image
     }
 
-    pub fn submission(&self) -> Vec<u8> {
-        let image = self.image();
-        let mut bytes = b"KSB\x01\x00".to_vec();
-        bytes.push(self.modules.len() as u8);
-        bytes.extend_from_slice(&(image.len() as u32).to_le_bytes());
-        bytes.extend_from_slice(&(self.line.len() as u16).to_le_bytes());
-        for module in &self.modules {
-            bytes.extend_from_slice(&(module.data.len() as u32).to_le_bytes());
-            bytes.extend_from_slice(&(module.string.len() as u16).to_le_bytes());
-            bytes.extend_from_slice(&[0, 0]);
-        }
-        bytes.extend_from_slice(&image);
-        bytes.extend_from_slice(&self.line);
-        for module in &self.modules {
-            bytes.extend_from_slice(&module.data);
-            bytes.extend_from_slice(&module.string);
-        }
-        bytes
-    }
-
     pub fn case(&self, name: String) -> Case {
         Case {
             name,
-            submission: self.submission(),
+            submission: submission(&self.image(), &self.line, &self.modules),
             operator: self.operator.clone(),
             map: map_bytes(&self.pairs),
             window: pattern(self.pattern, self.window),

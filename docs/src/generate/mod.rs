@@ -7,14 +7,18 @@ pub mod draft;
 
 use crate::case::Case;
 use crate::limits::{
-    FLOOR, FULL_HEADER, LOADER_NAME, MAX_LINE, MAX_MAP, MAX_MODULES, MAX_PAIRS, MAX_STRING,
-    MODULE_ENTRY, PAGE, SEARCH_LIMIT, STRUCTURE, WORD,
+    ADDRESS_FIELDS, FLOOR, FULL_HEADER, LOADER_NAME, MAX_LINE, MAX_MAP, MAX_MODULES, MAX_PAIRS,
+    MAX_STRING, MIN_PAIR_SIZE, MODULE_ENTRY, PAGE, PAGE_ALIGNED, SEARCH_LIMIT, SHORT_HEADER,
+    STRUCTURE, WORD,
 };
-use crate::pair::{self, Pair};
+use crate::pair::Pair;
 use crate::review;
 use crate::rng::Rng;
 use board::{Board, Needs};
 use draft::{Draft, Header, Module};
+
+/// The length of images that are longer than the part searched for a header.
+const LONG_IMAGE: usize = 9000;
 
 type MakeBoard = fn(&mut Rng, &Needs) -> Board;
 
@@ -51,11 +55,10 @@ pub fn review_submission(seed: u64, index: u64) -> Vec<u8> {
 }
 
 fn review_board(rng: &mut Rng, _: &Needs) -> Board {
-    let case = review::case(&[]);
     Board {
-        pairs: pair::pairs(&case.map),
+        pairs: review::pairs().to_vec(),
         load_addr: FLOOR + rng.pick(&[0, 0, 0, 4, 0x1000, 0xB_F00]),
-        window: FLOOR..FLOOR + case.window.len() as u64,
+        window: review::case(&[]).addresses(),
     }
 }
 
@@ -63,11 +66,11 @@ fn review_board(rng: &mut Rng, _: &Needs) -> Board {
 fn sound(rng: &mut Rng, make: MakeBoard) -> Draft {
     let shape = KernelShape::new(rng);
     let flags = flags(rng);
-    let modules = modules(rng, flags & 1 == 1);
+    let modules = modules(rng, flags & PAGE_ALIGNED != 0);
     let line = text(rng, MAX_LINE);
     let operator = text(rng, MAX_LINE);
     let sizes = pair_sizes(rng, modules.len());
-    let boundary = if flags & 1 == 1 { PAGE } else { WORD };
+    let boundary = if flags & PAGE_ALIGNED != 0 { PAGE } else { WORD };
     let in_force = if operator.is_empty() { &line } else { &operator };
     let item = |module: &Module| (module.data.len() as u64, boundary);
     let mut items: Vec<_> = modules.iter().map(item).collect();
@@ -116,7 +119,7 @@ impl KernelShape {
             _ => 4 * rng.below(last / 4 + 1),
         };
         let some = rng.below(300);
-        let behind = rng.pick(&[0, 0, 1, 8, some / 4, some, 9000 - offset]);
+        let behind = rng.pick(&[0, 0, 1, 8, some / 4, some, LONG_IMAGE as u64 - offset]);
         let image = offset + FULL_HEADER as u64 + behind;
         let part = rng.below(offset + 1);
         let back = rng.pick(&[offset, offset, 0, part]);
@@ -156,7 +159,7 @@ impl KernelShape {
 fn flags(rng: &mut Rng) -> u32 {
     let any = rng.next() as u32 & 0xFFFE_0000;
     let ignored = rng.pick(&[0, 0, 0, any, 0xFFFE_0000]);
-    ignored | 1 << 16 | rng.below(4) as u32
+    ignored | ADDRESS_FIELDS | rng.below(4) as u32
 }
 
 /// Up to 16 modules; fewer where they take whole pages.
@@ -201,9 +204,10 @@ fn pair_sizes(rng: &mut Rng, modules: usize) -> Vec<u32> {
         0 => MAX_PAIRS as u64,
         _ => (least + rng.below(5)).min(MAX_PAIRS as u64),
     };
+    let least_size = MIN_PAIR_SIZE as u32;
     let mut size = || match rng.below(4) {
-        0 => 20 + rng.below(30) as u32,
-        _ => 20,
+        0 => least_size + rng.below(30) as u32,
+        _ => least_size,
     };
     let mut sizes: Vec<u32> = (0..count).map(|_| size()).collect();
     if rng.one_in(60) {
@@ -231,9 +235,9 @@ fn filler(rng: &mut Rng, length: usize) -> Vec<u8> {
 
 /// Places before the header for a magic that does not count.
 fn decoys(rng: &mut Rng, header: usize) -> Vec<usize> {
-    if header < 24 || rng.one_in(2) {
+    if header < 2 * SHORT_HEADER || rng.one_in(2) {
         return Vec::new();
     }
-    let at = rng.below(header as u64 - 12) as usize;
+    let at = rng.below((header - SHORT_HEADER) as u64) as usize;
     vec![rng.pick(&[0, at, at / 4 * 4])]
 }

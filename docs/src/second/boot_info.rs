@@ -5,11 +5,7 @@ use super::spans::Span;
 use super::{word, Layout, Request};
 use crate::bytes::put_u32;
 use crate::layout::information;
-use crate::limits::{LOADER_NAME, MODULE_ENTRY, STRUCTURE};
-
-/// Memory sizes, modules, memory map and loader name are always given.
-const FLAGS: u32 = 0x249;
-const FLAG_COMMAND_LINE: u32 = 0x4;
+use crate::limits::{INFO_CMDLINE, INFO_FLAGS, LOADER_NAME, MODULE_ENTRY, STRUCTURE};
 
 /// The block's length, known before anything is placed.
 pub fn length(request: &Request) -> u64 {
@@ -87,8 +83,8 @@ impl<'a> BootInfo<'a> {
     fn structure(&self, name: u32, command_line: u32) -> Vec<u8> {
         let usable = self.request.map.usable();
         let flags = match command_line {
-            0 => FLAGS,
-            _ => FLAGS | FLAG_COMMAND_LINE,
+            0 => INFO_FLAGS,
+            _ => INFO_FLAGS | INFO_CMDLINE,
         };
         let mut bytes = vec![0; STRUCTURE as usize];
         let mut put = |field: usize, value: u32| put_u32(&mut bytes, field, value);

@@ -3,12 +3,13 @@
 use super::spans::Span;
 use crate::bytes::u32_at;
 use crate::layout::header;
-use crate::limits::{FULL_HEADER, HEADER_MAGIC, SEARCH_LIMIT, SHORT_HEADER};
+use crate::limits::{
+    ADDRESS_FIELDS, FULL_HEADER, HEADER_MAGIC, PAGE_ALIGNED, SEARCH_LIMIT, SHORT_HEADER,
+};
 use crate::plan::Refusal;
 
-const PAGE_ALIGNED: u32 = 1;
-const DEMANDS_UNKNOWN: u32 = 0xFFFC;
-const ADDRESS_FIELDS: u32 = 1 << 16;
+/// Flag bits 2 to 15.
+const UNKNOWN_DEMANDS: u32 = 0xFFFC;
 
 /// A place in the image file, never an address.
 #[derive(Clone, Copy, Debug, PartialEq, Eq)]
@@ -85,7 +86,7 @@ fn find_header(image: &[u8]) -> Option<ImageOffset> {
 impl AddressFields {
     /// The fields behind the flags and the checksum (checks 7 to 9).
     fn read(image: &[u8], offset: ImageOffset, flags: u32) -> Result<Self, Refusal> {
-        if flags & DEMANDS_UNKNOWN != 0 {
+        if flags & UNKNOWN_DEMANDS != 0 {
             return Err(Refusal::UnknownDemand);
         }
         if flags & ADDRESS_FIELDS == 0 {

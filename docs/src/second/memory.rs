@@ -2,10 +2,10 @@
 
 use super::spans::{Span, SpanSet};
 use crate::bytes::{u32_at, u64_at};
-use crate::limits::{ADDRESS_SPACE, FLOOR, MAX_MAP, MAX_MEM_LOWER, MAX_PAIRS, MIN_PAIR_SIZE};
+use crate::limits::{
+    ADDRESS_SPACE, FLOOR, MAX_MAP, MAX_MEM_LOWER, MAX_PAIRS, MEM_UNIT, MIN_PAIR_SIZE, USABLE,
+};
 use crate::plan::Refusal;
-
-const USABLE: u32 = 1;
 
 /// A pair's region, cut off at 2^32.
 struct Region {
@@ -94,12 +94,12 @@ impl Region {
     }
 }
 
-/// mem_lower: the usable addresses from 0 on, in units of 1,024.
+/// mem_lower: the usable addresses in a row from 0 on, in whole units.
 pub fn mem_lower(usable: &SpanSet) -> u64 {
-    (usable.run_from(0) / 1024).min(MAX_MEM_LOWER)
+    (usable.run_from(0) / MEM_UNIT).min(MAX_MEM_LOWER)
 }
 
-/// mem_upper: the usable addresses from 1 MiB on, in units of 1,024.
+/// mem_upper: the usable addresses in a row from 1 MiB on, in whole units.
 pub fn mem_upper(usable: &SpanSet) -> u64 {
-    usable.run_from(FLOOR) / 1024
+    usable.run_from(FLOOR) / MEM_UNIT
 }

@@ -2,11 +2,8 @@
 
 use crate::bytes::{u16_at, u32_at};
 use crate::layout::{submission, table_entry};
-use crate::limits::{MAX_LINE, MAX_MODULES, MAX_STRING, PREFIX, TABLE_ENTRY};
+use crate::limits::{MARK, MAX_LINE, MAX_MODULES, MAX_STRING, PREFIX, TABLE_ENTRY, VERSION};
 use crate::plan::Refusal;
-
-const MARK: &[u8] = b"KSB";
-const VERSION: u16 = 1;
 
 /// A submission's parts, each a part of the lent bytes.
 pub struct Submission<'a> {
