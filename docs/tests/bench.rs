@@ -6,7 +6,7 @@ use viertompu_host::compare::{others, run, same, sound, NaiveView, Outcome};
 use viertompu_host::generate::draft::Header;
 use viertompu_host::second;
 
-/// The outcome is what the rules names, and right by itself.
+/// The outcome is what the rules name, and right by itself.
 fn meets(bench: &BenchCase, outcome: &Outcome) -> Result<(), String> {
     let expected = Outcome { words: bench.words, window: outcome.window.clone() };
     same(&bench.case, outcome, &expected)?;
@@ -23,12 +23,12 @@ fn meets(bench: &BenchCase, outcome: &Outcome) -> Result<(), String> {
 fn check_all(cases: &[BenchCase]) {
     for bench in cases {
         let outcome = run(second::load, &bench.case);
-        meets(bench, &outcome).unwrap_or_else(|e| panic!("{}: second: {e}", bench.name));
+        meets(bench, &outcome).unwrap_or_else(|e| panic!("{}: second: {e}", bench.case.name));
         for (name, loader) in others() {
             let other = run(loader, &bench.case);
             meets(bench, &other)
                 .and_then(|()| same(&bench.case, &other, &outcome))
-                .unwrap_or_else(|e| panic!("{}: {name}: {e}", bench.name));
+                .unwrap_or_else(|e| panic!("{}: {name}: {e}", bench.case.name));
         }
     }
 }
