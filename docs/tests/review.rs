@@ -1,13 +1,28 @@
 //! What the review program prints, by the second loader and by the compiled program.
 
-use viertompu_host::bench_cases::{b1, B1_OUTPUT};
-use viertompu_host::review::output;
+use std::fs;
+use std::path::Path;
+use viertompu_host::bench_cases::b1;
+use viertompu_host::review::{output, MAX_INPUT};
 use viertompu_host::second;
 
+const SAMPLES: &str = concat!(env!("CARGO_MANIFEST_DIR"), "/../samples");
+
 #[test]
-fn b1_prints_its_three_lines() {
-    assert_eq!(b1().len(), 66);
-    assert_eq!(output(second::load, &b1()), B1_OUTPUT);
+fn b1_is_a_sample() {
+    let sample = fs::read(Path::new(SAMPLES).join("b1.ksb")).expect("B1 can be read");
+    assert_eq!(sample, b1());
+}
+
+#[test]
+fn samples_print_what_stands_beside_them() {
+    let entries = fs::read_dir(SAMPLES).expect("the samples can be listed");
+    let paths = entries.map(|entry| entry.expect("a sample has a path").path());
+    for path in paths.filter(|path| path.extension().is_some_and(|e| e == "ksb")) {
+        let submission = fs::read(&path).expect("a sample can be read");
+        let text = fs::read_to_string(path.with_extension("txt")).expect("a text beside it");
+        assert_eq!(output(second::load, &submission), text, "{}", path.display());
+    }
 }
 
 #[test]
@@ -17,8 +32,8 @@ fn a_refusal_prints_one_line() {
 
 #[test]
 fn the_limit_of_the_input_is_12288_bytes() {
-    assert_eq!(output(second::load, &[0; 12_288]), "refused 1 0\n");
-    let over = output(second::load, &[0; 12_289]);
+    assert_eq!(output(second::load, &[0; MAX_INPUT]), "refused 1 0\n");
+    let over = output(second::load, &[0; MAX_INPUT + 1]);
     assert_eq!(over, "input over 12288 bytes\n");
 }
 
@@ -28,7 +43,7 @@ mod compiled {
     use std::process::{Command, Stdio};
     use viertompu_host::bench_cases::b1;
     use viertompu_host::generate::review_submission;
-    use viertompu_host::review::output;
+    use viertompu_host::review::{output, MAX_INPUT};
     use viertompu_host::second;
 
     const PROGRAM: &str = concat!(env!("CARGO_MANIFEST_DIR"), "/../review");
@@ -51,7 +66,7 @@ mod compiled {
 
     #[test]
     fn prints_what_the_second_loader_says() {
-        let fixed = [b1(), Vec::new(), vec![0; 12_288], vec![0; 12_289]];
+        let fixed = [b1(), Vec::new(), vec![0; MAX_INPUT], vec![0; MAX_INPUT + 1]];
         let generated = (0..300).map(|index| review_submission(1, index));
         for submission in fixed.into_iter().chain(generated) {
             assert_eq!(printed(&submission), output(second::load, &submission));
