@@ -5,18 +5,17 @@ pub struct Rng {
 }
 
 impl Rng {
-    pub fn new(seed: u64) -> Self {
+    fn new(seed: u64) -> Self {
         Rng { state: seed }
     }
 
     /// The numbers of one case of a run: each case can be made without those before it.
     pub fn of_case(seed: u64, index: u64) -> Self {
-        let run = Rng::new(seed).next();
-        Rng::new(Rng::new(run ^ index).next())
+        let run = Rng::new(seed).next_u64();
+        Rng::new(Rng::new(run ^ index).next_u64())
     }
 
-    #[allow(clippy::should_implement_trait)]
-    pub fn next(&mut self) -> u64 {
+    pub fn next_u64(&mut self) -> u64 {
         self.state = self.state.wrapping_add(0x9E37_79B9_7F4A_7C15);
         let mut z = self.state;
         z = (z ^ (z >> 30)).wrapping_mul(0xBF58_476D_1CE4_E5B9);
@@ -26,7 +25,7 @@ impl Rng {
 
     /// A number below the bound, which is not 0.
     pub fn below(&mut self, bound: u64) -> u64 {
-        self.next() % bound
+        self.next_u64() % bound
     }
 
     /// A number from `low` to `high`, both included.
@@ -51,7 +50,7 @@ impl Rng {
     pub fn bytes(&mut self, length: usize) -> Vec<u8> {
         let mut bytes = Vec::with_capacity(length + 8);
         while bytes.len() < length {
-            bytes.extend_from_slice(&self.next().to_le_bytes());
+            bytes.extend_from_slice(&self.next_u64().to_le_bytes());
         }
         bytes.truncate(length);
         bytes

@@ -157,7 +157,7 @@ impl KernelShape {
 /// Bit 16 and any of the bits a loader must know or may ignore. High flags make the header's sum
 /// 2^33 rather than 2^32.
 fn flags(rng: &mut Rng) -> u32 {
-    let any = rng.next() as u32 & 0xFFFE_0000;
+    let any = rng.next_u64() as u32 & 0xFFFE_0000;
     let ignored = rng.pick(&[0, 0, 0, any, 0xFFFE_0000]);
     ignored | ADDRESS_FIELDS | rng.below(4) as u32
 }
