@@ -4,8 +4,8 @@ use crate::bytes::u32_at;
 use crate::case::Case;
 use crate::handover;
 use crate::layout::information;
-use crate::naive::{self, Board};
-use crate::plan::{Loader, Plan, Words};
+use crate::naive::Board;
+use crate::plan::{Item, Loader, Plan, Words};
 use crate::second;
 use std::ops::Range;
 
@@ -56,8 +56,8 @@ pub fn sound(case: &Case, outcome: &Outcome) -> Result<(), String> {
 pub struct NaiveView {
     board: Board,
     kernel: Range<u64>,
-    modules: Vec<naive::Item>,
-    block: naive::Item,
+    modules: Vec<Item>,
+    block: Item,
 }
 
 impl NaiveView {
@@ -65,12 +65,11 @@ impl NaiveView {
     pub fn of(case: &Case) -> Option<Self> {
         let request = second::examine(case).ok()?;
         let extent = request.kernel.extent();
-        let item = |item: second::Item| (item.length, item.boundary);
         Some(NaiveView {
             board: Board::of(case),
             kernel: extent.start..extent.end,
-            modules: request.module_items().into_iter().map(item).collect(),
-            block: item(request.block_item()),
+            modules: request.module_items(),
+            block: request.block_item(),
         })
     }
 

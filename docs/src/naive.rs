@@ -4,7 +4,7 @@
 use crate::case::Case;
 use crate::limits::{ADDRESS_SPACE, FLOOR, MAX_MEM_LOWER, MEM_UNIT, USABLE};
 use crate::pair::{pairs, Pair};
-use crate::plan::Refusal;
+use crate::plan::{Item, Refusal};
 use std::ops::Range;
 
 /// A map and the addresses of a window.
@@ -12,9 +12,6 @@ pub struct Board {
     pairs: Vec<Pair>,
     pub window: Range<u64>,
 }
-
-/// An item's length and boundary.
-pub type Item = (u64, u64);
 
 impl Board {
     /// The board of a case whose map is sound.
@@ -70,14 +67,14 @@ impl Board {
     }
 
     /// Tries every address of the window; `free` has one entry for each.
-    fn take(&self, free: &mut [bool], (length, boundary): Item) -> Option<u64> {
+    fn take(&self, free: &mut [bool], item: Item) -> Option<u64> {
         let first = self.window.start;
         let is_free = |a: u64| self.window.contains(&a) && free[(a - first) as usize];
         let start = self
             .window
             .clone()
-            .find(|&a| a >= FLOOR && a % boundary == 0 && (a..a + length).all(is_free))?;
-        for address in start..start + length {
+            .find(|&a| a >= FLOOR && a % item.boundary == 0 && (a..a + item.length).all(is_free))?;
+        for address in start..start + item.length {
             free[(address - first) as usize] = false;
         }
         Some(start)

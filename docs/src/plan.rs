@@ -17,6 +17,13 @@ pub type Words = [u32; WORDS];
 /// A loader: it loads a case into a window that begins as a copy of the case's.
 pub type Loader = fn(&Case, &mut [u8]) -> Words;
 
+/// Something to be placed: a module or the information block.
+#[derive(Clone, Copy, Debug, PartialEq, Eq)]
+pub struct Item {
+    pub length: u64,
+    pub boundary: u64,
+}
+
 /// The addresses from `start` up to but not including `end`.
 #[derive(Clone, Copy, Debug, Default, PartialEq, Eq)]
 pub struct Extent {

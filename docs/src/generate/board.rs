@@ -2,6 +2,7 @@
 
 use crate::limits::{ADDRESS_SPACE, FLOOR, LOW_MEMORY, PAGE, TOP, USABLE};
 use crate::pair::Pair;
+use crate::plan::Item;
 use crate::rng::Rng;
 use std::ops::Range;
 
@@ -10,8 +11,7 @@ const RESERVED: [u32; 5] = [2, 2, 3, 0, u32::MAX];
 /// What the board is made for. The count of pairs is given, as the block's length hangs on it.
 pub struct Needs {
     pub kernel: u64,
-    /// length and boundary of each
-    pub items: Vec<(u64, u64)>,
+    pub items: Vec<Item>,
     pub pairs: usize,
 }
 
@@ -24,7 +24,7 @@ pub struct Board {
 impl Needs {
     /// Enough bytes for kernel and items in any order.
     fn room(&self) -> u64 {
-        let items: u64 = self.items.iter().map(|(length, b)| length + b + 16).sum();
+        let items: u64 = self.items.iter().map(|item| item.length + item.boundary + 16).sum();
         self.kernel + 16 + items
     }
 }
@@ -42,27 +42,28 @@ fn origin(rng: &mut Rng, room: u64) -> u64 {
     }
 }
 
-/// A hole in memory made to measure.
+/// A region made to measure.
 #[derive(Clone, Copy)]
-struct Hole {
+struct Region {
     start: u64,
     end: u64,
     is_kernel: bool,
 }
 
-/// A hole of the exact length for the kernel and for each item; one of them may be off by a byte.
+/// A usable region of the exact length for the kernel and for each item; one of them may be off by
+/// a byte.
 pub fn fitted(rng: &mut Rng, needs: &Needs) -> Board {
-    let mut holes = lay_out(rng, needs);
-    let kernel = holes.iter().find(|hole| hole.is_kernel);
-    let load_addr = kernel.expect("the kernel has a hole").start;
-    let window = around(rng, &holes);
+    let mut regions = lay_out(rng, needs);
+    let kernel = regions.iter().find(|region| region.is_kernel);
+    let load_addr = kernel.expect("the kernel has a region").start;
+    let window = around(rng, &regions);
     if rng.one_in(2) {
-        let index = rng.below(holes.len() as u64) as usize;
-        trim(rng, &mut holes[index]);
+        let index = rng.below(regions.len() as u64) as usize;
+        trim(rng, &mut regions[index]);
     }
     let mut pairs = match rng.below(3) {
-        0 => wide_with_gaps(rng, &holes),
-        _ => holes.iter().map(|h| pair_of(h.start, h.end, USABLE)).collect(),
+        0 => wide_with_gaps(rng, &regions),
+        _ => regions.iter().map(|r| pair_of(r.start, r.end, USABLE)).collect(),
     };
     pad(rng, &mut pairs, needs.pairs, &window);
     Board { pairs, load_addr, window }
@@ -72,40 +73,42 @@ fn pair_of(start: u64, end: u64, kind: u32) -> Pair {
     Pair::new(start, end.saturating_sub(start), kind)
 }
 
-/// The holes in rising order, mostly that of placing.
-fn lay_out(rng: &mut Rng, needs: &Needs) -> Vec<Hole> {
+/// The regions in rising order, mostly that of placing.
+fn lay_out(rng: &mut Rng, needs: &Needs) -> Vec<Region> {
     let kernel_boundary = rng.pick(&[1, 1, 4, PAGE]);
-    let mut wanted = vec![(needs.kernel, kernel_boundary, true)];
-    wanted.extend(needs.items.iter().map(|&(length, b)| (length, b, false)));
+    let kernel = Item { length: needs.kernel, boundary: kernel_boundary };
+    let mut wanted = vec![(kernel, true)];
+    wanted.extend(needs.items.iter().map(|&item| (item, false)));
     if rng.one_in(4) {
         rng.shuffle(&mut wanted);
     }
     let mut at = origin(rng, needs.room() + kernel_boundary);
-    let mut holes = Vec::new();
-    for (length, boundary, is_kernel) in wanted {
-        let start = (at + rng.pick(&[0, 0, 0, 1, 2, 3, 5, 16])).next_multiple_of(boundary);
-        let end = start + length;
-        holes.push(Hole { start, end, is_kernel });
+    let mut regions = Vec::new();
+    for (item, is_kernel) in wanted {
+        let lead = rng.pick(&[0, 0, 0, 1, 2, 3, 5, 16]);
+        let start = (at + lead).next_multiple_of(item.boundary);
+        let end = start + item.length;
+        regions.push(Region { start, end, is_kernel });
         at = end;
     }
-    holes
+    regions
 }
 
-/// Makes a hole a byte shorter or longer, at either end.
-fn trim(rng: &mut Rng, hole: &mut Hole) {
+/// Makes a region a byte shorter or longer, at either end.
+fn trim(rng: &mut Rng, region: &mut Region) {
     match rng.below(6) {
-        0..=2 => hole.end -= 1,
-        3 => hole.end += 1,
-        4 => hole.start += 1,
-        _ => hole.start = hole.start.saturating_sub(1),
+        0..=2 => region.end -= 1,
+        3 => region.end += 1,
+        4 => region.start += 1,
+        _ => region.start = region.start.saturating_sub(1),
     }
 }
 
-/// One usable region over all holes, and reserved ones over what lies between them.
-fn wide_with_gaps(rng: &mut Rng, holes: &[Hole]) -> Vec<Pair> {
-    let (low, high) = (holes[0].start, holes[holes.len() - 1].end);
+/// One usable region over all of them, and reserved ones over the gaps between them.
+fn wide_with_gaps(rng: &mut Rng, regions: &[Region]) -> Vec<Pair> {
+    let (low, high) = (regions[0].start, regions[regions.len() - 1].end);
     let mut pairs = vec![pair_of(low, high, USABLE)];
-    for two in holes.windows(2) {
+    for two in regions.windows(2) {
         if two[0].end < two[1].start {
             pairs.push(pair_of(two[0].end, two[1].start, rng.pick(&RESERVED)));
         }
@@ -113,17 +116,17 @@ fn wide_with_gaps(rng: &mut Rng, holes: &[Hole]) -> Vec<Pair> {
     pairs
 }
 
-/// A window around the holes, at times a byte too small for them all or for one of them.
-fn around(rng: &mut Rng, holes: &[Hole]) -> Range<u64> {
-    let (low, high) = (holes[0].start, holes[holes.len() - 1].end);
+/// A window around the regions, at times a byte too small for them all or for one of them.
+fn around(rng: &mut Rng, regions: &[Region]) -> Range<u64> {
+    let (low, high) = (regions[0].start, regions[regions.len() - 1].end);
     let before = rng.pick(&[0, 0, 0, 1, 2, 3, 5, 100]);
     let behind = rng.pick(&[0, 0, 0, 1, 2, 3, 4, 7, 100, 1000]);
     let mut window = low.saturating_sub(before)..(high + behind).min(TOP);
     match rng.below(24) {
         0 => window.end = high - 1,
         1 => window.start = low + 1,
-        2 => window.end = rng.pick(holes).end - 1,
-        3..=5 => window.end = holes[holes.len() - 2].end - 1,
+        2 => window.end = rng.pick(regions).end - 1,
+        3..=5 => window.end = regions[regions.len() - 2].end - 1,
         6 if TOP - high < 20_000 => window.end = TOP,
         _ => {}
     }

@@ -12,6 +12,7 @@ use crate::limits::{
     STRUCTURE, WORD,
 };
 use crate::pair::Pair;
+use crate::plan::Item;
 use crate::review;
 use crate::rng::Rng;
 use board::{Board, Needs};
@@ -72,9 +73,9 @@ fn sound(rng: &mut Rng, make: MakeBoard) -> Draft {
     let sizes = pair_sizes(rng, modules.len());
     let boundary = if flags & PAGE_ALIGNED != 0 { PAGE } else { WORD };
     let in_force = if operator.is_empty() { &line } else { &operator };
-    let item = |module: &Module| (module.data.len() as u64, boundary);
+    let item = |module: &Module| Item { length: module.data.len() as u64, boundary };
     let mut items: Vec<_> = modules.iter().map(item).collect();
-    items.push((block_length(&sizes, in_force, &modules), WORD));
+    items.push(Item { length: block_length(&sizes, in_force, &modules), boundary: WORD });
     let needs = Needs { kernel: shape.load + shape.bss.unwrap_or(0), items, pairs: sizes.len() };
     let board = make(rng, &needs);
     Draft {
@@ -197,7 +198,7 @@ fn text(rng: &mut Rng, most: usize) -> Vec<u8> {
     rng.text(length as usize)
 }
 
-/// The sizes of a map's pairs, enough of them for a hole for each item.
+/// The sizes of a map's pairs, enough of them for a region for each item.
 fn pair_sizes(rng: &mut Rng, modules: usize) -> Vec<u32> {
     let least = modules as u64 + 3;
     let count = match rng.below(24) {

@@ -1,17 +1,17 @@
 //! The second loader: checks in the order of their numbers, placing by sets of spans, and the
 //! window written only after every check has passed.
 //!
-//! Physical addresses are plain `u64`; offsets in the image are [`kernel::ImageOffset`].
+//! Physical addresses are plain `u64`; offsets in the image are `kernel::ImageOffset`.
 
-pub mod boot_info;
-pub mod kernel;
-pub mod memory;
-pub mod spans;
+mod boot_info;
+mod kernel;
+mod memory;
+mod spans;
 pub mod submission;
 
 use crate::case::Case;
 use crate::limits::{BOOT_MAGIC, MAX_LINE, MAX_MODULES, MAX_SEGMENTS, PAGE, TOP, WORD};
-use crate::plan::{self, Answer, Extent, Plan, Refusal, Segment, Words};
+use crate::plan::{self, Answer, Extent, Item, Plan, Refusal, Segment, Words};
 use boot_info::BootInfo;
 use kernel::Kernel;
 use memory::MemoryMap;
@@ -36,13 +36,6 @@ pub struct Request<'a> {
     pub command_line: &'a [u8],
     pub map: MemoryMap<'a>,
     pub window: Span,
-}
-
-/// Something to be placed.
-#[derive(Clone, Copy, Debug, PartialEq, Eq)]
-pub struct Item {
-    pub length: u64,
-    pub boundary: u64,
 }
 
 /// Checks 1 to 14.
@@ -80,9 +73,9 @@ impl Request<'_> {
 }
 
 /// Where the items stand.
-pub struct Layout {
-    pub modules: Vec<Span>,
-    pub block: Span,
+struct Layout {
+    modules: Vec<Span>,
+    block: Span,
 }
 
 /// Checks 15 to 17.
@@ -155,6 +148,6 @@ fn extent(span: Span) -> Extent {
 }
 
 /// A number of a load as a word: all of them lie within the window, so below 2^32.
-pub(crate) fn word(number: u64) -> u32 {
+fn word(number: u64) -> u32 {
     u32::try_from(number).expect("a load's numbers lie below 2^32")
 }
