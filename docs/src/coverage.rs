@@ -10,16 +10,11 @@ use crate::limits::{
 };
 use crate::naive::Board;
 use crate::pair::{map_bytes, pairs, Pair};
-use crate::plan::{Extent, Plan};
+use crate::plan::{reachable_numbers, Extent, Plan};
 use crate::second::{self, Request};
 use std::collections::BTreeMap;
 use std::fmt;
 use std::ops::Range;
-
-/// The numbers of the answers; 11 cannot be reached, as the header found lies in the image behind
-/// the load offset.
-const NUMBERS: u32 = 17;
-const UNREACHABLE: u32 = 11;
 
 /// Everything counted beside the numbers.
 const EDGES: [&str; 29] = [
@@ -93,7 +88,7 @@ impl Coverage {
                 gaps.push(format!("{what}: {count} times, not {least}"));
             }
         };
-        for number in (0..=NUMBERS).filter(|&n| n != UNREACHABLE) {
+        for number in reachable_numbers() {
             demand(format!("number {number}"), self.numbers.get(&number));
         }
         for count in 0..=MAX_MODULES {
@@ -112,7 +107,7 @@ impl Coverage {
 impl fmt::Display for Coverage {
     fn fmt(&self, f: &mut fmt::Formatter) -> fmt::Result {
         writeln!(f, "{} cases", self.cases)?;
-        for number in 0..=NUMBERS {
+        for number in reachable_numbers() {
             let count = self.numbers.get(&number).unwrap_or(&0);
             writeln!(f, "  number {number:2}: {count}")?;
         }

@@ -28,7 +28,7 @@ impl Board {
         (walk + window) * self.pairs.len() as u128
     }
 
-    pub fn usable(&self, address: u64) -> bool {
+    fn usable(&self, address: u64) -> bool {
         let covers = |pair: &Pair| pair.covers(address);
         let mut ram = self.pairs.iter().filter(|pair| pair.kind == USABLE);
         let mut other = self.pairs.iter().filter(|pair| pair.kind != USABLE);

@@ -94,6 +94,13 @@ pub enum Refusal {
 
 pub type Answer = Result<Plan, Refusal>;
 
+/// The numbers that some input gives. None gives 11: the header found lies in the image, and not
+/// before the load offset.
+pub fn reachable_numbers() -> impl Iterator<Item = u32> {
+    let (last, unreachable) = (Refusal::NoRoomForBlock, Refusal::NothingToLoad);
+    (0..=last.number()).filter(move |&number| number != unreachable.number())
+}
+
 impl Refusal {
     pub fn number(self) -> u32 {
         match self {

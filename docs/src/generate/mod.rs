@@ -1,8 +1,8 @@
 //! Seeded inputs: sound ones on boards of all kinds, edges, and damaged ones. A case depends on
 //! its seed and index alone.
 
-pub mod board;
-pub mod damage;
+mod board;
+mod damage;
 pub mod draft;
 
 use crate::case::Case;
