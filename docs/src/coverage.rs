@@ -3,51 +3,21 @@
 use crate::bytes::u32_at;
 use crate::case::Case;
 use crate::compare::{run, Outcome};
-use crate::layout::information;
+use crate::layout::{header, information};
 use crate::limits::{
     ADDRESS_SPACE, FLOOR, HEADER_MAGIC, MAX_LINE, MAX_MAP, MAX_MEM_LOWER, MAX_MODULES, MAX_PAIRS,
-    MIN_PAIR_SIZE, PAGE, TOP, USABLE,
+    MAX_STRING, MIN_PAIR_SIZE, TOP, USABLE, WORD,
 };
 use crate::naive::Board;
 use crate::pair::{map_bytes, pairs, Pair};
-use crate::plan::{reachable_numbers, Extent, Plan};
+use crate::plan::{reachable_numbers, Extent, Plan, Refusal};
 use crate::second::{self, Request};
 use std::collections::BTreeMap;
 use std::fmt;
 use std::ops::Range;
 
-/// Everything counted beside the numbers.
-const EDGES: [&str; 29] = [
-    "window empty",
-    "window begins below 1 MiB and ends above it",
-    "window begins at 1 MiB",
-    "window's first address not a multiple of 4",
-    "window's first address not a multiple of 4096",
-    "window ends at 0xFFFFF000",
-    "window longer than 64 KiB",
-    "window above 2 GiB",
-    "map with a pair size above 20",
-    "map of 32 pairs",
-    "map of 4096 bytes",
-    "map with a sum past 2^32",
-    "map with a sum past 2^64",
-    "map with usable pairs that abut",
-    "map with usable pairs that overlap",
-    "map with a reserved pair over a usable one",
-    "load end at 2^32",
-    "load end past 2^32",
-    "loaded with a header sum of 2^32",
-    "loaded with a header sum of 2^33",
-    "loaded with the header behind a false one",
-    "loaded with the kernel below 1 MiB",
-    "loaded with page boundaries",
-    "loaded with an operator's line of 255 bytes",
-    "loaded with mem_lower 640",
-    "item ends where open memory ends",
-    "item fills a gap exactly",
-    "module refused for want of one byte",
-    "block refused for want of one byte",
-];
+/// Something that inputs are made to reach, and whether this one does.
+type Edge = (&'static str, bool);
 
 #[derive(Default)]
 pub struct Coverage {
@@ -57,6 +27,7 @@ pub struct Coverage {
     loads: BTreeMap<usize, u64>,
     /// refusals for want of room by the module's index
     items: BTreeMap<u32, u64>,
+    /// how often each edge was reached, also 0 once a case of its kind came
     edges: BTreeMap<&'static str, u64>,
 }
 
@@ -65,20 +36,34 @@ impl Coverage {
         let [number, item, ..] = outcome.words;
         self.cases += 1;
         *self.numbers.entry(number).or_default() += 1;
-        if number == 16 {
+        if number == Refusal::NoRoomForModule(item).number() {
             *self.items.entry(item).or_default() += 1;
         }
-        for edge in edges(case, outcome) {
-            assert!(EDGES.contains(&edge), "{edge} is not listed");
-            *self.edges.entry(edge).or_default() += 1;
-        }
-        if let Some(plan) = Plan::of_words(&outcome.words) {
-            let count = plan.modules.iter().filter(|m| m.end != 0).count();
-            *self.loads.entry(count).or_default() += 1;
+        match second::examine(case) {
+            Err(Refusal::BadOperatorLine) => self.count(line_edges(&case.operator)),
+            Err(_) => {}
+            Ok(request) => self.record_board(case, &request, outcome),
         }
     }
 
-    /// What came less often than a hundred times in 200,000 cases.
+    /// Records a case that passes checks 1 to 14.
+    fn record_board(&mut self, case: &Case, request: &Request, outcome: &Outcome) {
+        let pairs = pairs(&case.map);
+        self.count(OnBoard { case, request, pairs: &pairs, outcome }.edges());
+        if let Some(plan) = &Plan::of_words(&outcome.words) {
+            let board = Board::of(case);
+            self.count(Load { case, request, pairs: &pairs, board, plan, outcome }.edges());
+            *self.loads.entry(request.submission.modules.len()).or_default() += 1;
+        }
+    }
+
+    fn count(&mut self, edges: Vec<Edge>) {
+        for (edge, reached) in edges {
+            *self.edges.entry(edge).or_default() += u64::from(reached);
+        }
+    }
+
+    /// What came less often than a hundred times in 200,000 cases, or may not come at all.
     pub fn gaps(&self) -> Vec<String> {
         let least = self.cases / 2000;
         let mut gaps = Vec::new();
@@ -97,9 +82,12 @@ impl Coverage {
         for index in 0..MAX_MODULES as u32 {
             demand(format!("no room for module {index}"), self.items.get(&index));
         }
-        for edge in EDGES {
-            demand(edge.to_string(), self.edges.get(edge));
+        for (edge, count) in &self.edges {
+            demand(edge.to_string(), Some(count));
         }
+        let unreachable = |number: &&u32| !reachable_numbers().any(|n| n == **number);
+        let strays = self.numbers.keys().filter(unreachable);
+        gaps.extend(strays.map(|number| format!("number {number}, which no input gives")));
         gaps
     }
 }
@@ -107,136 +95,207 @@ impl Coverage {
 impl fmt::Display for Coverage {
     fn fmt(&self, f: &mut fmt::Formatter) -> fmt::Result {
         writeln!(f, "{} cases", self.cases)?;
-        for number in reachable_numbers() {
-            let count = self.numbers.get(&number).unwrap_or(&0);
+        for (number, count) in &self.numbers {
             writeln!(f, "  number {number:2}: {count}")?;
         }
         writeln!(f, "  loads by modules: {:?}", self.loads)?;
         writeln!(f, "  refusals 16 by item: {:?}", self.items)?;
-        for edge in EDGES {
-            let count = self.edges.get(edge).unwrap_or(&0);
+        for (edge, count) in &self.edges {
             writeln!(f, "  {edge}: {count}")?;
         }
         Ok(())
     }
 }
 
-/// The edges a case stands on.
-fn edges(case: &Case, outcome: &Outcome) -> Vec<&'static str> {
-    let mut found = window_edges(case);
-    let Ok(request) = second::examine(case) else {
-        return found;
-    };
-    found.extend(map_edges(&case.map));
-    found.extend(chosen(&[
-        (request.kernel.load.end == ADDRESS_SPACE, "load end at 2^32"),
-        (request.kernel.load.end > ADDRESS_SPACE, "load end past 2^32"),
-    ]));
-    match (Plan::of_words(&outcome.words), outcome.words[0]) {
-        (Some(plan), _) => {
-            found.extend(load_edges(case, &request, &plan, outcome));
-            found.extend(gap_edges(case, &request, &plan));
-        }
-        (None, 16) if one_byte_short(case, outcome) => {
-            found.push("module refused for want of one byte");
-        }
-        (None, 17) if one_byte_short(case, outcome) => {
-            found.push("block refused for want of one byte");
-        }
-        _ => {}
+/// Edges of an operator's line that is refused.
+fn line_edges(line: &[u8]) -> Vec<Edge> {
+    vec![
+        ("operator's line of 256 bytes", line.len() == MAX_LINE + 1),
+        ("operator's line with a zero byte", line.len() <= MAX_LINE && line.contains(&0)),
+    ]
+}
+
+/// A case whose kernel meets the board: one that passes checks 1 to 14.
+struct OnBoard<'a> {
+    case: &'a Case,
+    request: &'a Request<'a>,
+    pairs: &'a [Pair],
+    outcome: &'a Outcome,
+}
+
+impl OnBoard<'_> {
+    fn edges(&self) -> Vec<Edge> {
+        let Range { start: first, end } = self.case.addresses();
+        let load_end = self.request.kernel.load.end;
+        let number = self.outcome.words[0];
+        vec![
+            ("window empty", first == end),
+            ("window below 1 MiB", first < end && end <= FLOOR),
+            ("window below 1 MiB from 0 on", first == 0 && first < end && end <= FLOOR),
+            ("window across 1 MiB", first < FLOOR && end > FLOOR),
+            ("window begins at 1 MiB", first == FLOOR),
+            ("window begins above 1 MiB", first > FLOOR),
+            ("window ends at the top", first < end && end == TOP),
+            ("window longer than 64 KiB", end - first > 65_536),
+            ("map of 32 pairs", self.pairs.len() == MAX_PAIRS),
+            ("map of 4,096 bytes", self.case.map.len() == MAX_MAP),
+            ("pair of a size above 20", self.pair(|p| p.size as usize > MIN_PAIR_SIZE)),
+            ("pair across 2^32", self.pair(|p| p.base < ADDRESS_SPACE && p.end() > 1 << 32)),
+            ("pair across 2^64", self.pair(|p| p.end() > 1 << 64)),
+            ("pair in the window by the low half of its base", self.base_cut_into_window()),
+            ("pair in the window by a wrapped end", self.end_wrapped_into_window()),
+            ("usable pairs that abut", self.usable_two(|a, b| a.end() == b.base.into())),
+            ("usable pairs that overlap", self.usable_two(overlap)),
+            ("reserved pair over a usable one", self.reserved_over_usable()),
+            ("load end at 2^32", load_end == ADDRESS_SPACE),
+            ("load end past 2^32", load_end > ADDRESS_SPACE),
+            ("module refused for want of one byte", number == 16 && self.one_byte_short()),
+            ("block refused for want of one byte", number == 17 && self.one_byte_short()),
+        ]
     }
-    found
+
+    fn pair(&self, test: fn(&Pair) -> bool) -> bool {
+        self.pairs.iter().any(test)
+    }
+
+    /// Does a test hold of two usable pairs?
+    fn usable_two(&self, test: fn(&Pair, &Pair) -> bool) -> bool {
+        let usable = || self.pairs.iter().enumerate().filter(|(_, p)| is_usable(p));
+        usable().any(|(i, a)| usable().any(|(j, b)| i != j && test(a, b)))
+    }
+
+    fn reserved_over_usable(&self) -> bool {
+        let reserved = |p: &&Pair| p.kind != USABLE && p.length > 0;
+        let usable = || self.pairs.iter().filter(|p| is_usable(p));
+        self.pairs.iter().filter(reserved).any(|r| usable().any(|u| overlap(u, r)))
+    }
+
+    fn base_cut_into_window(&self) -> bool {
+        let cut = |p: &Pair| self.case.addresses().contains(&(p.base % ADDRESS_SPACE));
+        self.pairs.iter().any(|p| p.base >= ADDRESS_SPACE && p.length > 0 && cut(p))
+    }
+
+    fn end_wrapped_into_window(&self) -> bool {
+        let wrapped = |p: &Pair| p.base.wrapping_add(p.length);
+        self.pairs.iter().any(|p| p.end() > 1 << 64 && wrapped(p) > self.case.first.into())
+    }
+
+    /// Does the answer change once each usable pair and the window end a byte later?
+    fn one_byte_short(&self) -> bool {
+        let mut longer = self.pairs.to_vec();
+        for pair in longer.iter_mut().filter(|pair| pair.kind == USABLE) {
+            pair.length = pair.length.saturating_add(1);
+        }
+        let mut more = Case { map: map_bytes(&longer), ..self.case.clone() };
+        more.window.push(1);
+        run(second::load, &more).words[..2] != self.outcome.words[..2]
+    }
 }
 
-fn chosen(edges: &[(bool, &'static str)]) -> Vec<&'static str> {
-    let holds = edges.iter().filter(|(holds, _)| *holds);
-    holds.map(|&(_, edge)| edge).collect()
-}
-
-fn window_edges(case: &Case) -> Vec<&'static str> {
-    let Range { start: first, end } = case.addresses();
-    let empty = case.window.is_empty();
-    chosen(&[
-        (empty, "window empty"),
-        (first < FLOOR && end > FLOOR, "window begins below 1 MiB and ends above it"),
-        (first == FLOOR, "window begins at 1 MiB"),
-        (first % 4 != 0, "window's first address not a multiple of 4"),
-        (first % PAGE != 0, "window's first address not a multiple of 4096"),
-        (end == TOP && !empty, "window ends at 0xFFFFF000"),
-        (case.window.len() > 65_536, "window longer than 64 KiB"),
-        (first > 1 << 31 && end <= TOP, "window above 2 GiB"),
-    ])
-}
-
-/// Edges of a sound map.
-fn map_edges(map: &[u8]) -> Vec<&'static str> {
-    let pairs = pairs(map);
-    let usable = |pair: &&Pair| pair.kind == USABLE && pair.length > 0;
-    let usable: Vec<&Pair> = pairs.iter().filter(usable).collect();
-    let some_two = |test: fn(&Pair, &Pair) -> bool| {
-        let others = |i: usize| usable.iter().enumerate().filter(move |(j, _)| *j != i);
-        let meets = |(i, a): (usize, &&Pair)| others(i).any(|(_, b)| test(a, b));
-        usable.iter().enumerate().any(meets)
-    };
-    let reserved = pairs.iter().filter(|pair| pair.kind != USABLE && pair.length > 0);
-    let lost = |r: &Pair| usable.iter().any(|u| overlap(u, r));
-    chosen(&[
-        (pairs.iter().any(|p| p.size as usize > MIN_PAIR_SIZE), "map with a pair size above 20"),
-        (pairs.len() == MAX_PAIRS, "map of 32 pairs"),
-        (map.len() == MAX_MAP, "map of 4096 bytes"),
-        (pairs.iter().any(|p| p.end() > 1 << 32), "map with a sum past 2^32"),
-        (pairs.iter().any(|p| p.end() > 1 << 64), "map with a sum past 2^64"),
-        (some_two(|a, b| a.end() == u128::from(b.base)), "map with usable pairs that abut"),
-        (some_two(overlap), "map with usable pairs that overlap"),
-        (reserved.clone().any(lost), "map with a reserved pair over a usable one"),
-    ])
+fn is_usable(pair: &Pair) -> bool {
+    pair.kind == USABLE && pair.length > 0
 }
 
 fn overlap(a: &Pair, b: &Pair) -> bool {
     u128::from(a.base) < b.end() && u128::from(b.base) < a.end()
 }
 
-fn load_edges(case: &Case, request: &Request, plan: &Plan, outcome: &Outcome) -> Vec<&'static str> {
-    let image = request.submission.image;
-    let word = |at: usize| u64::from(u32_at(image, at));
-    let header = plan.header_offset as usize;
-    let sum = word(header) + word(header + 4) + word(header + 8);
-    let magic = HEADER_MAGIC.to_le_bytes();
-    let earlier = (0..header).any(|at| image[at..].starts_with(&magic));
-    let mem_lower = (plan.block.start - case.first) as usize + information::MEM_LOWER;
-    let mem_lower = u32_at(&outcome.window, mem_lower);
-    let below = u64::from(plan.segments[0].start) < FLOOR;
-    chosen(&[
-        (sum == 1 << 32, "loaded with a header sum of 2^32"),
-        (sum == 1 << 33, "loaded with a header sum of 2^33"),
-        (earlier, "loaded with the header behind a false one"),
-        (below, "loaded with the kernel below 1 MiB"),
-        (request.kernel.page_aligned, "loaded with page boundaries"),
-        (case.operator.len() == MAX_LINE, "loaded with an operator's line of 255 bytes"),
-        (u64::from(mem_lower) == MAX_MEM_LOWER, "loaded with mem_lower 640"),
-    ])
+/// A load.
+struct Load<'a> {
+    case: &'a Case,
+    request: &'a Request<'a>,
+    pairs: &'a [Pair],
+    board: Board,
+    plan: &'a Plan,
+    outcome: &'a Outcome,
 }
 
-/// Does a load's item end where open memory ends, or fill a gap exactly?
-fn gap_edges(case: &Case, request: &Request, plan: &Plan) -> Vec<&'static str> {
-    let board = Board::of(case);
-    let mut items = plan.modules[..request.submission.modules.len()].to_vec();
-    items.push(plan.block);
-    let ends = |item: &Extent| !board.open(u64::from(item.end));
-    let begins = |item: &Extent| !board.open(u64::from(item.start) - 1);
-    chosen(&[
-        (items.iter().any(ends), "item ends where open memory ends"),
-        (items.iter().any(|i| ends(i) && begins(i)), "item fills a gap exactly"),
-    ])
-}
-
-/// Does the answer change once each usable pair and the window end a byte later?
-fn one_byte_short(case: &Case, outcome: &Outcome) -> bool {
-    let mut longer = pairs(&case.map);
-    for pair in longer.iter_mut().filter(|pair| pair.kind == USABLE) {
-        pair.length = pair.length.saturating_add(1);
+impl Load<'_> {
+    fn edges(&self) -> Vec<Edge> {
+        let (kernel, operator) = (&self.request.kernel, &self.case.operator);
+        let first = self.case.addresses().start;
+        let own_line = !self.request.submission.command_line.is_empty();
+        let load_end_addr = self.header_word(header::LOAD_END_ADDR);
+        let bss_end_addr = self.header_word(header::BSS_END_ADDR);
+        let whole = |item: &Extent| self.begins_region(item) && self.ends_region(item);
+        vec![
+            ("loaded without a command line", self.request.command_line.is_empty()),
+            ("loaded with the submission's line", operator.is_empty() && own_line),
+            ("loaded with the operator's line instead", !operator.is_empty() && own_line),
+            ("loaded with an operator's line of 1 byte", operator.len() == 1),
+            ("loaded with an operator's line of 255 bytes", operator.len() == MAX_LINE),
+            ("loaded with a module string of 127 bytes", self.longest_string()),
+            ("loaded with a header sum of 2^32", self.header_sum() == 1 << 32),
+            ("loaded with a header sum of 2^33", self.header_sum() == 1 << 33),
+            ("loaded with the header behind a false one", self.false_header_first()),
+            ("loaded with load_end_addr 0", load_end_addr == 0),
+            ("loaded with a load_end_addr", load_end_addr != 0),
+            ("loaded with bss_end_addr at the load end", bss_end_addr == kernel.load.end),
+            ("loaded with a bss", bss_end_addr > kernel.load.end),
+            ("loaded with the kernel below 1 MiB", kernel.load.start < FLOOR),
+            ("loaded with page boundaries", kernel.page_aligned),
+            ("loaded with mem_lower 640", self.mem_lower() == MAX_MEM_LOWER),
+            ("loaded into a window from 0 on", first == 0),
+            ("loaded into a window off a word boundary", !first.is_multiple_of(WORD)),
+            ("loaded into a window above 2 GiB", first > 1 << 31),
+            ("loaded around a hole", self.behind_parts().any(|a| !self.board.open(a))),
+            ("loaded around a reserved pair over a usable one", self.around_reserved()),
+            ("item ends where open memory ends", self.items().any(|i| self.ends_region(i))),
+            ("item fills a region exactly", self.items().any(whole)),
+        ]
     }
-    let mut more = Case { map: map_bytes(&longer), ..case.clone() };
-    more.window.push(1);
-    run(second::load, &more).words[..2] != outcome.words[..2]
+
+    fn longest_string(&self) -> bool {
+        self.request.submission.modules.iter().any(|m| m.string.len() == MAX_STRING)
+    }
+
+    fn header_word(&self, offset: usize) -> u64 {
+        let header = self.plan.header_offset as usize;
+        u64::from(u32_at(self.request.submission.image, header + offset))
+    }
+
+    fn header_sum(&self) -> u64 {
+        let magic = u64::from(HEADER_MAGIC);
+        magic + self.header_word(header::FLAGS) + self.header_word(header::CHECKSUM)
+    }
+
+    /// Does the magic stand before the header, at any offset?
+    fn false_header_first(&self) -> bool {
+        let before = 0..self.plan.header_offset as usize;
+        let image = self.request.submission.image;
+        before.into_iter().any(|at| image[at..].starts_with(&HEADER_MAGIC.to_le_bytes()))
+    }
+
+    fn mem_lower(&self) -> u64 {
+        let block = (self.plan.block.start - self.case.first) as usize;
+        u64::from(u32_at(&self.outcome.window, block + information::MEM_LOWER))
+    }
+
+    fn items(&self) -> impl Iterator<Item = &Extent> {
+        let modules = &self.plan.modules[..self.request.submission.modules.len()];
+        modules.iter().chain([&self.plan.block])
+    }
+
+    fn ends_region(&self, item: &Extent) -> bool {
+        !self.board.open(u64::from(item.end))
+    }
+
+    fn begins_region(&self, item: &Extent) -> bool {
+        !self.board.open(u64::from(item.start) - 1)
+    }
+
+    /// The addresses right behind kernel and items, up to where the last of them begins.
+    fn behind_parts(&self) -> impl Iterator<Item = u64> {
+        let segment = self.plan.segments[0];
+        let kernel = Extent { start: segment.start, end: segment.extent_end };
+        let parts: Vec<Extent> = self.items().copied().chain([kernel]).collect();
+        let last = parts.iter().map(|part| part.start).max();
+        let ends = parts.into_iter().map(|part| part.end);
+        ends.filter(move |&end| Some(end) < last).map(u64::from)
+    }
+
+    fn around_reserved(&self) -> bool {
+        let usable = |a: u64| self.pairs.iter().any(|p| is_usable(p) && p.covers(a));
+        self.behind_parts().any(|a| usable(a) && !self.board.open(a))
+    }
 }

@@ -1,7 +1,8 @@
 //! Generated inputs through the second loader, held against the address-by-address model on small
 //! boards, against a reading of the finished load, and against every other loader there is.
 //!
-//! Prints how often each number came and fails where one came too rarely or two answers differ.
+//! Prints how often each number and each edge came, and fails where one came too rarely or two
+//! answers differ.
 //! `VIERTOMPU_SEED` and `VIERTOMPU_CASES` choose another run.
 
 use std::collections::BTreeMap;
@@ -86,7 +87,7 @@ fn verdict(mut gaps: Vec<String>, agreed: &BTreeMap<u32, u64>, cases: u64) -> Ex
         }
     }
     for gap in &gaps {
-        println!("too rare: {gap}");
+        println!("coverage: {gap}");
     }
     if gaps.is_empty() {
         println!("all agree");

@@ -38,7 +38,7 @@ fn origin(rng: &mut Rng, room: u64) -> u64 {
         10 => FLOOR - 4 * rng.below(30),
         11 | 12 => FLOOR + PAGE * rng.below(0xE_0000) + rng.pick(&[0, 0, 1, 2, 4]),
         13 | 14 => TOP - room.next_multiple_of(PAGE) - PAGE * rng.below(3),
-        _ => rng.below(0x9000),
+        _ => rng.below(0x9000) * rng.below(2),
     }
 }
 
@@ -148,6 +148,15 @@ pub fn roomy(rng: &mut Rng, needs: &Needs) -> Board {
     }
     pad(rng, &mut pairs, needs.pairs, &window);
     Board { pairs, load_addr: low + lead, window }
+}
+
+/// A window from 0 on to behind 1 MiB, with usable memory at both ends.
+pub fn from_zero(rng: &mut Rng, needs: &Needs) -> Board {
+    let high = needs.room() + rng.below(1000);
+    let mut pairs = vec![Pair::new(0, LOW_MEMORY, USABLE), Pair::new(FLOOR, high, USABLE)];
+    let window = 0..FLOOR + high;
+    pad(rng, &mut pairs, needs.pairs, &window);
+    Board { pairs, load_addr: rng.pick(&[0, 0x7C00, FLOOR]), window }
 }
 
 /// Regions of all kinds thrown over a window, which may be empty.
