@@ -127,6 +127,8 @@ impl OnBoard<'_> {
     fn edges(&self) -> Vec<Edge> {
         let Range { start: first, end } = self.case.addresses();
         let load_end = self.request.kernel.load.end;
+        let kernel = self.request.kernel.extent();
+        let inside = first <= kernel.start && kernel.end <= end;
         let number = self.outcome.words[0];
         vec![
             ("window empty", first == end),
@@ -149,6 +151,8 @@ impl OnBoard<'_> {
             ("reserved pair over a usable one", self.reserved_over_usable()),
             ("load end at 2^32", load_end == ADDRESS_SPACE),
             ("load end past 2^32", load_end > ADDRESS_SPACE),
+            ("kernel refused outside the window", number == 15 && !inside),
+            ("kernel refused inside the window", number == 15 && inside),
             ("module refused for want of one byte", number == 16 && self.one_byte_short()),
             ("block refused for want of one byte", number == 17 && self.one_byte_short()),
         ]

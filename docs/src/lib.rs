@@ -1,7 +1,7 @@
 //! The host side of viertompu: a second loader of Multiboot 0.6.93 kernels, written from the
 //! rules alone, and the means to hold another loader against it.
 //!
-//! - [`limits`], [`layout`]: the numbers of the rules, and where the fields of its formats stand
+//! - [`limits`], [`layout`]: the numbers of the rules, and where the fields of the formats stand
 //! - [`bytes`], [`pair`], [`rng`]: little-endian numbers, map pairs, seeded random numbers
 //! - [`plan`]: what a loader answers, as types and as 96 words
 //! - [`second`]: the second loader; it places items by sets of spans

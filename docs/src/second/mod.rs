@@ -34,8 +34,8 @@ pub struct Request<'a> {
     pub kernel: Kernel<'a>,
     pub submission: Submission<'a>,
     pub command_line: &'a [u8],
-    pub map: MemoryMap<'a>,
-    pub window: Span,
+    map: MemoryMap<'a>,
+    window: Span,
 }
 
 /// Checks 1 to 14.
