@@ -38,7 +38,10 @@ fn origin(rng: &mut Rng, room: u64) -> u64 {
         10 => FLOOR - 4 * rng.below(30),
         11 | 12 => FLOOR + PAGE * rng.below(0xE_0000) + rng.pick(&[0, 0, 1, 2, 4]),
         13 | 14 => TOP - room.next_multiple_of(PAGE) - PAGE * rng.below(3),
-        _ => rng.below(0x9000) * rng.below(2),
+        _ => {
+            let low = rng.below(0x9000);
+            rng.pick(&[0, low])
+        }
     }
 }
 

@@ -212,16 +212,20 @@ fn pair_sizes(rng: &mut Rng, modules: usize) -> Vec<u32> {
     };
     let mut sizes: Vec<u32> = (0..count).map(|_| size()).collect();
     if rng.one_in(60) {
-        let length: u32 = sizes.iter().map(|size| size + 4).sum();
-        sizes[0] += MAX_MAP as u32 - length;
+        sizes[0] += MAX_MAP as u32 - map_length(&sizes);
     }
     sizes
+}
+
+/// The length of a map with pairs of these sizes.
+fn map_length(sizes: &[u32]) -> u32 {
+    sizes.iter().map(|size| size + 4).sum()
 }
 
 /// The information block's length.
 fn block_length(sizes: &[u32], line: &[u8], modules: &[Module]) -> u64 {
     let stored = |text: &[u8]| text.len() + usize::from(!text.is_empty());
-    let map: u64 = sizes.iter().map(|&size| u64::from(size) + 4).sum();
+    let map = u64::from(map_length(sizes));
     let strings: usize = modules.iter().map(|module| stored(&module.string)).sum();
     let texts = stored(LOADER_NAME) + stored(line) + strings;
     STRUCTURE + MODULE_ENTRY * modules.len() as u64 + map + texts as u64
