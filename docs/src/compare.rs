@@ -5,7 +5,7 @@ use crate::case::Case;
 use crate::handover;
 use crate::layout::information;
 use crate::naive::Board;
-use crate::plan::{Item, Loader, Plan, Words};
+use crate::plan::{reachable_numbers, Item, Loader, Plan, Words};
 use crate::second;
 use std::ops::Range;
 
@@ -44,9 +44,11 @@ pub fn same(case: &Case, one: &Outcome, other: &Outcome) -> Result<(), String> {
 /// a load hands over what the submission holds.
 pub fn sound(case: &Case, outcome: &Outcome) -> Result<(), String> {
     match Plan::of_words(&outcome.words) {
+        Some(plan) if plan.words() != outcome.words => Err("a load has stray words".into()),
         Some(plan) => handover::check(case, &plan, outcome),
         None if outcome.window != case.window => Err("a refusal wrote the window".into()),
         None if outcome.words[2..].iter().any(|&w| w != 0) => Err("a refusal has a plan".into()),
+        None if !reachable_numbers().any(|n| n == outcome.words[0]) => Err("no such number".into()),
         None if outcome.words[0] != 16 && outcome.words[1] != 0 => Err("a stray item".into()),
         None => Ok(()),
     }

@@ -3,8 +3,11 @@
 use viertompu_host::bench_cases::b1;
 use viertompu_host::bytes::{put_u32, u32_at};
 use viertompu_host::case::Case;
-use viertompu_host::compare::{run, same, sound};
+use viertompu_host::compare::{run, same, sound, NaiveView, Outcome};
+use viertompu_host::generate::draft::pattern;
 use viertompu_host::layout::information;
+use viertompu_host::limits::{FLOOR, USABLE};
+use viertompu_host::pair::{map_bytes, Pair};
 use viertompu_host::plan::{Loader, Plan, Refusal, Words};
 use viertompu_host::{generate, review, second};
 
@@ -123,4 +126,29 @@ fn reading_a_load_catches_wrong_loaders() {
 fn neither_finds_fault_with_the_second_itself() {
     assert!(!caught_beside_the_second(second::load));
     assert!(!caught_by_reading(second::load));
+}
+
+#[test]
+fn every_byte_and_word_of_a_load_is_read() {
+    let memory = [Pair::new(0, 0x1000, USABLE), Pair::new(FLOOR, 0x2000, USABLE)];
+    let case = Case {
+        operator: b"line".to_vec(),
+        map: map_bytes(&memory),
+        window: pattern(0, 0x1005),
+        ..review::case(&b1())
+    };
+    let model = NaiveView::of(&case).expect("B1 passes checks 1 to 14");
+    let right = |outcome: &Outcome| sound(&case, outcome).and_then(|()| model.agrees(outcome));
+    let outcome = run(second::load, &case);
+    assert_eq!(right(&outcome), Ok(()));
+    for at in 0..outcome.window.len() {
+        let mut other = outcome.clone();
+        other.window[at] ^= 1;
+        assert!(right(&other).is_err(), "byte {at:X}");
+    }
+    for at in 0..outcome.words.len() {
+        let mut other = outcome.clone();
+        other.words[at] ^= 1;
+        assert!(right(&other).is_err(), "word {at}");
+    }
 }
