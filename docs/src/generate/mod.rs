@@ -246,3 +246,17 @@ fn decoys(rng: &mut Rng, header: usize) -> Vec<usize> {
     let at = rng.below((header - SHORT_HEADER) as u64) as usize;
     vec![rng.pick(&[0, at, at / 4 * 4])]
 }
+
+#[cfg(test)]
+mod tests {
+    use super::*;
+
+    #[test]
+    fn any_damages_go_together() {
+        for index in 0..20_000 {
+            let mut rng = Rng::of_case(1, index);
+            let draft = sound(&mut rng, board::roomy);
+            damage::damaged(&mut rng, draft, &damage::all(), 8, String::new());
+        }
+    }
+}
