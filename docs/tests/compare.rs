@@ -13,7 +13,7 @@ use std::path::Path;
 use std::process::ExitCode;
 use std::time::Instant;
 use viertompu_host::case::Case;
-use viertompu_host::compare::{others, run, same, sound, NaiveView, Outcome};
+use viertompu_host::compare::{others, run, same, sound, NaiveView};
 use viertompu_host::coverage::Coverage;
 use viertompu_host::{generate, second};
 
@@ -32,9 +32,7 @@ fn main() -> ExitCode {
     let mut agreed: BTreeMap<u32, u64> = BTreeMap::new();
     for index in 0..cases {
         let case = generate::case(seed, index);
-        let outcome = run(second::load, &case);
-        coverage.record(&case, &outcome);
-        let checked = catch_unwind(AssertUnwindSafe(|| check(&case, &outcome, &mut agreed)));
+        let checked = catch_unwind(AssertUnwindSafe(|| check(&case, &mut coverage, &mut agreed)));
         if let Err(what) = checked.unwrap_or(Err("a panic".to_string())) {
             return differs(&case, &what);
         }
@@ -55,15 +53,21 @@ fn setting(name: &str, default: u64) -> u64 {
 }
 
 /// Everything that must hold of one case.
-fn check(case: &Case, outcome: &Outcome, agreed: &mut BTreeMap<u32, u64>) -> Result<(), String> {
-    sound(case, outcome)?;
+fn check(
+    case: &Case,
+    coverage: &mut Coverage,
+    agreed: &mut BTreeMap<u32, u64>,
+) -> Result<(), String> {
+    let outcome = run(second::load, case);
+    coverage.record(case, &outcome);
+    sound(case, &outcome)?;
     if let Some(view) = NaiveView::up_to(case, SMALL_BOARD) {
-        view.agrees(outcome)?;
+        view.agrees(&outcome)?;
         *agreed.entry(outcome.words[0]).or_default() += 1;
     }
     for (name, loader) in others() {
         let other = run(loader, case);
-        same(case, &other, outcome).map_err(|what| format!("{name} and second: {what}"))?;
+        same(case, &other, &outcome).map_err(|what| format!("{name} and second: {what}"))?;
     }
     Ok(())
 }
