@@ -1,16 +1,17 @@
 -- What is known of an image that no check refuses, and of the kernel that it asks for.
 --     judged-answer, judged-load                    the parts of the answer for an image
 --     image-refuses                                 the checks on it refuse
+--     high-bits                                     flag bits that are ignored
 --     Passed, passed, not-cut-off                   no check applies
 --     segment                                       the kernel's one segment
 --     Accepted, accepted                            where its header, its load bytes and its entry lie
 --     Calculated, calculated                        its addresses, by the numbers in the header
 --     Small, small                                  how large its addresses are
 -- Assumes nothing.
-use mathlib.Core.Path.{_≡_, refl, sym}
+use mathlib.Core.Path.{_≡_, refl, ap, sym}
 use mathlib.Core.Bool.{true, false, not, _&&_, false≢true}
 use mathlib.Core.List.{List, _∷_}
-use Prim.Native.Nat.{ℕ, zero, suc, _+_, _-_, _^_, _≤_, _<_, max}
+use Prim.Native.Nat.{ℕ, zero, suc, _+_, _-_, _*_, _/_, _%_, _^_, _≤_, _<_, max}
 use native.Mathlib.Omega.{arith}
 use borrow.Author.Tests.{ltb-false, leb-false, eq-eqb, ne-eqb}
 use lib.Dec.{eqb, leb, ltb}
@@ -44,6 +45,14 @@ module _ (image : List ℕ) where
   pub image-refuses : refuses (imageChecks image) ≡ true
   unfolding refuses headerChecks loadChecks imageChecks
   image-refuses = refl
+
+-- flag bits 17 to 31 are ignored: whatever k adds there changes nothing that is read in the flags
+pub high-bits : (f k : ℕ) → (unknownRequest (f + 2 ^ 17 * k) ≡ unknownRequest f) × (noAddresses (f + 2 ^ 17 * k) ≡ noAddresses f) × (onPages (f + 2 ^ 17 * k) ≡ onPages f)
+high-bits f k =
+    let a : (f + 2 ^ 17 * k) / 2 ^ 2 % 2 ^ 14 ≡ f / 2 ^ 2 % 2 ^ 14 = omega arith in
+    let b : (f + 2 ^ 17 * k) / 2 ^ 16 % 2 ≡ f / 2 ^ 16 % 2 = omega arith in
+    let c : (f + 2 ^ 17 * k) % 2 ≡ f % 2 = omega arith in
+    (ap (λ (n : ℕ). not (eqb n 0)) a, ap (λ (n : ℕ). eqb n 0) b, ap (λ (n : ℕ). not (eqb n 0)) c)
 
 -- no check applies to the image
 pub record Passed (image : List ℕ) : Type 0 where
