@@ -11,13 +11,11 @@ use native.Mathlib.Omega.{arith}
 use borrow.Author.Tests.{eq-eqb, ne-eqb}
 use lib.ListN.{length, take, drop, getD, set, length-set, length-drop}
 use lib.Seq.{drop-cons, getD-set-same, drop-set-lt, take-set-lt, take-all, length-take-le}
-use Rattle.memory.specs.Patched.{patched}
-use Rattle.memory.specs.PatchedLaws.{patched-append}
 use Rattle.viertompu.specs.Rows.{rows}
 use Rattle.submission.specs.Format.{moduleLimit}
 use Rattle.image.specs.Judged.{segmentLimit}
 use Rattle.report.specs.Text.{Wrote, blank, newline, hexLength, decimalLength, glyphOf, digitsOf, leadingZeros, decimalText, fieldText}
-use Rattle.report.specs.TextLaws.{length-digits, wrote, wrote-behind}
+use Rattle.report.specs.TextLaws.{wrote-behind}
 use Rattle.report.specs.Report.{refusedWord, numberIn, segmentLine, moduleLine, infoLine, refusalText, reportOf}
 use Rattle.report.specs.ReportLaws.{report-of-load}
 
@@ -77,37 +75,30 @@ lead-last (d ∷ c ∷ l) zero h = absurd (omega arith)
 lead-last (d ∷ l) (suc i) h = lead-last l i (omega arith)
 
 -- a number's decimal digits without the zeros in front, and a field's blank and digits
-pub decimal-written : (w : List ℕ) (at : ℕ) (l v : List ℕ) (from n x : ℕ) → take decimalLength l ≡ digitsOf 10 decimalLength x → length l ≡ decimalLength
-    → from ≡ leadingZeros l → from ≤ decimalLength → n ≡ decimalLength - from → v ≡ patched w at (take n (drop from l)) → Wrote w at (decimalText x) v (at + n)
+pub decimal-written : (w : List ℕ) (at : ℕ) (l v : List ℕ) (from n x r : ℕ) → take decimalLength l ≡ digitsOf 10 decimalLength x → length l ≡ decimalLength
+    → from ≡ leadingZeros l → n ≡ decimalLength - from → Wrote w at (take n (drop from l)) v r → Wrote w at (decimalText x) v r
 unfolding decimalText
-decimal-written w at l v from n x e k f h m p =
+decimal-written w at l v from n x r e k f m h =
     let d : l ≡ digitsOf 10 decimalLength x = sym (take-all decimalLength l (omega arith)) ∙ e in
     let t : take n (drop from l) ≡ drop from l = take-all n (drop from l) (omega (arith, length-drop from l)) in
     let s : drop from l ≡ decimalText x = ap (λ (j : ℕ). drop j l) f ∙ ap (λ (j : List ℕ). drop (leadingZeros j) j) d in
-    record {
-      holds = p ∙ ap (patched w at) (t ∙ s);
-      ends = omega (arith, ap length s, length-drop from l);
-    }
+    rw (t ∙ s) at h
 
-pub field-written : (w : List ℕ) (at : ℕ) (l u v : List ℕ) (x : ℕ) → take hexLength l ≡ digitsOf 16 hexLength x
-    → u ≡ patched w at (blank ∷ []) → v ≡ patched u (at + 1) (take hexLength l) → Wrote w at (fieldText x) v (at + 1 + hexLength)
+pub field-written : (w : List ℕ) (at : ℕ) (l u v : List ℕ) (x m r : ℕ) → take hexLength l ≡ digitsOf 16 hexLength x
+    → Wrote w at (blank ∷ []) u m → Wrote u m (take hexLength l) v r → Wrote w at (fieldText x) v r
 unfolding fieldText
-field-written w at l u v x e p q =
-    record {
-      holds = rw (q, p, e) (patched-append w at (blank ∷ []) (digitsOf 16 hexLength x));
-      ends = omega (arith, length-digits 16 hexLength x);
-    }
+field-written w at l u v x m r e f g = wrote-behind w at (blank ∷ []) (digitsOf 16 hexLength x) u v m r f (rw e at g)
 
 -- the line of a refusal, part by part
-pub refusal-written : (w t u v x y : List ℕ) (m e number item : ℕ)
-    → t ≡ patched w 0 refusedWord → Wrote t 8 (decimalText number) u m → v ≡ patched u m (blank ∷ []) → Wrote v (m + 1) (decimalText item) x e → y ≡ patched x e (newline ∷ [])
-    → Wrote w 0 (refusalText number item) y (e + 1)
+pub refusal-written : (w t u v x y : List ℕ) (k m b e r number item : ℕ)
+    → Wrote w 0 refusedWord t k → Wrote t k (decimalText number) u m → Wrote u m (blank ∷ []) v b → Wrote v b (decimalText item) x e → Wrote x e (newline ∷ []) y r
+    → Wrote w 0 (refusalText number item) y r
 unfolding refusalText
-refusal-written w t u v x y m e number item f g h i j =
-    wrote-behind w 0 refusedWord _ t y 8 (e + 1) (wrote w 0 refusedWord t f)
-    (wrote-behind t 8 (decimalText number) _ u y m (e + 1) g
-    (wrote-behind u m (blank ∷ []) _ v y (m + 1) (e + 1) (wrote u m (blank ∷ []) v h)
-    (wrote-behind v (m + 1) (decimalText item) (newline ∷ []) x y e (e + 1) i (wrote x e (newline ∷ []) y j))))
+refusal-written w t u v x y k m b e r number item f g h i j =
+    wrote-behind w 0 refusedWord _ t y k r f
+    (wrote-behind t k (decimalText number) _ u y m r g
+    (wrote-behind u m (blank ∷ []) _ v y b r h
+    (wrote-behind v b (decimalText item) (newline ∷ []) x y e r i j)))
 
 -- the lines of a load, one behind the other
 pub load-written : (p w u v x : List ℕ) (m n r : ℕ) → numberIn p ≡ 0

@@ -2,7 +2,7 @@
 --     length-digits                           so many digits as asked for
 --     decimal-short                           no number has more than ten decimal digits
 --     length-field, length-fields             nine bytes for each field, and one for the end of the line
---     wrote, wrote-nothing                    a write, and none
+--     wrote-nothing                           no text
 --     wrote-behind, wrote-row                 two texts one behind the other, and a row more
 -- Assumes nothing.
 use mathlib.Core.Path.{_≡_, refl, ap, sym, _∙_}
@@ -11,7 +11,6 @@ use Prim.Native.Nat.{ℕ, zero, suc, _+_, _*_, _-_, _/_, _%_, _≤_}
 use native.Mathlib.Nat.{add-zero}
 use native.Mathlib.Omega.{arith}
 use lib.ListN.{length, getD, length-append, length-drop}
-use Rattle.memory.specs.Patched.{patched}
 use Rattle.memory.specs.PatchedLaws.{patched-nil, patched-append}
 use Rattle.viertompu.specs.Rows.{rows}
 use Rattle.viertompu.specs.RowLaws.{length-rows, rows-more}
@@ -39,10 +38,6 @@ length-fields fields =
     ∙ omega (arith, length-rows (λ i. fieldText (getD fields i 0)) 9 (λ i. length-field (getD fields i 0)) (length fields))
 
 module _ (w : List ℕ) (at : ℕ) where
-  -- a write of t
-  pub wrote : (t v : List ℕ) → v ≡ patched w at t → Wrote w at t v (at + length t)
-  wrote t v e = record { holds = e; ends = refl }
-
   pub wrote-nothing : Wrote w at [] w at
   wrote-nothing = record { holds = sym (patched-nil w at); ends = sym (add-zero at) }
 

@@ -1,4 +1,5 @@
 // Numbers as text.
+use crate::write_text;
 ghost use mathlib.Core.Path.{_≡_};
 ghost use Prim.Native.Nat.{_+_, _*_, _≤_, _<_, _^_};
 ghost use lib.ListN.{length, take};
@@ -20,19 +21,17 @@ pub fn write_fields(text: &mut [u8], at: usize, fields: &[u32]) -> usize
         next = write_field(text, next, fields[i]);
         i += 1;
     }
-    memory::write_bytes(text, next, b"\n");
-    next + 1
+    write_text(text, next, b"\n")
 }
 
 // Writes a blank and a number in eight hexadecimal digits.
-pub fn write_field(text: &mut [u8], at: usize, x: u32) -> usize
+fn write_field(text: &mut [u8], at: usize, x: u32) -> usize
     requires { ⌜ at + 9 < 2 ^ 64 ⌝ }
     ensures { λ r. ⌜ Wrote (now (text .entry)) at (fieldText x) (now (text .exit)) r ⌝ }
 {
     let list = spell(x, 16, HEX);
-    memory::write_bytes(text, at, b" ");
-    memory::write_bytes(text, at + 1, &list[..HEX]);
-    at + 1 + HEX
+    let after_blank = write_text(text, at, b" ");
+    write_text(text, after_blank, &list[..HEX])
 }
 
 // Writes a number in decimal digits, without zeros in front.
@@ -42,8 +41,7 @@ pub fn write_decimal(text: &mut [u8], at: usize, x: u32) -> usize
 {
     let list = spell(x, 10, DECIMAL);
     let from = leading(list);
-    memory::write_bytes(text, at, &list[from..]);
-    at + (DECIMAL - from)
+    write_text(text, at, &list[from..])
 }
 
 // How many zeros stand in front of the digits, the last of them left out.

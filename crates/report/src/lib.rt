@@ -43,12 +43,11 @@ pub fn write_report(text: &mut [u8], plan: &[u32; WORDS]) -> usize
 fn write_refusal(text: &mut [u8], number: u32, item: u32) -> usize
     ensures { λ r. ⌜ Wrote (now (text .entry)) 0 (refusalText number item) (now (text .exit)) r ⌝ }
 {
-    memory::write_bytes(text, 0, b"refused ");
-    let after_number = digits::write_decimal(text, 8, number);
-    memory::write_bytes(text, after_number, b" ");
-    let after_item = digits::write_decimal(text, after_number + 1, item);
-    memory::write_bytes(text, after_item, b"\n");
-    after_item + 1
+    let after_word = write_text(text, 0, b"refused ");
+    let after_number = digits::write_decimal(text, after_word, number);
+    let after_blank = write_text(text, after_number, b" ");
+    let after_item = digits::write_decimal(text, after_blank, item);
+    write_text(text, after_item, b"\n")
 }
 
 // Writes a line for each segment.
@@ -102,8 +101,8 @@ fn write_module(text: &mut [u8], at: usize, plan: &[u32; WORDS], i: usize) -> us
     if end == 0 {
         return at;
     }
-    memory::write_bytes(text, at, b"module ");
-    let after_index = digits::write_decimal(text, at + 7, i as u32);
+    let after_word = write_text(text, at, b"module ");
+    let after_index = digits::write_decimal(text, after_word, i as u32);
     let fields = [plan[from], end];
     digits::write_fields(text, after_index, &fields)
 }
@@ -113,6 +112,15 @@ fn write_line(text: &mut [u8], at: usize, label: &[u8], fields: &[u32]) -> usize
     requires { ⌜ at + length (now label) + 9 * length (now fields) + 1 < 2 ^ 64 ⌝ }
     ensures { λ r. ⌜ Wrote (now (text .entry)) at (lineText (now (label .entry)) (now (fields .entry))) (now (text .exit)) r ⌝ }
 {
-    memory::write_bytes(text, at, label);
-    digits::write_fields(text, at + label.len(), fields)
+    let after_label = write_text(text, at, label);
+    digits::write_fields(text, after_label, fields)
+}
+
+// Writes the bytes of a text.
+pub fn write_text(text: &mut [u8], at: usize, s: &[u8]) -> usize
+    requires { ⌜ at + length (now s) < 2 ^ 64 ⌝ }
+    ensures { λ r. ⌜ Wrote (now (text .entry)) at (now (s .entry)) (now (text .exit)) r ⌝ }
+{
+    memory::write_bytes(text, at, s);
+    at + s.len()
 }

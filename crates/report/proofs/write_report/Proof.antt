@@ -1,5 +1,6 @@
 -- `report::write_report` meets its contract: the line of a refusal, or the lines of a load one behind the other.
 -- Assumes nothing.
+use Prim.Native.Nat.{_+_, _*_, _≤_}
 use native.Mathlib.Omega.{arith}
 use Rattle.viertompu.specs.RowLaws.{rows-short}
 use Rattle.submission.specs.Format.{moduleLimit}
@@ -28,16 +29,28 @@ same-length c = search needs
 
 returns : tie.Need-returns
 returns c =
-    let p = c .before .before .before .before .before .before .before .before .before .args .plan .now in
-    (rw (← report-of-refusal p (c .before .before .before .before .before .before .if1 .taken)) (c .before .before .write-refusal .ensures), omega (arith, c .before .before .write-refusal .ensures .ends, refusal-short (numberIn p) (itemIn p)))
+    let line = c .before .before in
+    let refused = line .before .before .before .before in
+    let p = refused .before .before .before .args .plan .now in
+    (rw (← report-of-refusal p (refused .if1 .taken)) (line .write-refusal .ensures), omega (arith, line .write-refusal .ensures .ends, refusal-short (numberIn p) (itemIn p)))
 
 write-segments-requires : tie.Need-write-segments-requires
 write-segments-requires c κs = search needs
 
+-- where the lines of the segments end, and those of the modules
+segments-end : (c : tie.After-write-segments) → c .write-segments .result ≤ lineLimit * segmentLimit
+segments-end c =
+    let p = c .before .before .before .before .before .args .plan .now in
+    omega (arith, c .write-segments .ensures .ends, rows-short (segmentLine p) lineLimit (segment-short p) segmentLimit)
+
+modules-end : (c : tie.After-write-modules) → c .write-modules .result ≤ lineLimit * segmentLimit + lineLimit * moduleLimit
+modules-end c =
+    let segments = c .before .before .before .before in
+    let p = segments .before .before .before .before .before .args .plan .now in
+    omega (arith, c .write-modules .ensures .ends, segments-end segments, rows-short (moduleLine p) lineLimit (module-short p) moduleLimit)
+
 write-modules-requires : tie.Need-write-modules-requires
-write-modules-requires c κs =
-    let p = c .before .before .before .before .before .before .before .before .args .plan .now in
-    omega (arith, c .before .before .before .write-segments .ensures .ends, rows-short (segmentLine p) lineLimit (segment-short p) segmentLimit)
+write-modules-requires c κs = omega (arith, segments-end (c .before .before .before))
 
 element-copy-out-t9 : tie.Need-element-copy-out-t9
 element-copy-out-t9 c = search needs
@@ -52,19 +65,20 @@ slice-aggregate-write-line-2 : tie.Need-slice-aggregate-write-line-2
 slice-aggregate-write-line-2 c = search needs
 
 write-line-requires : tie.Need-write-line-requires
-write-line-requires c κs =
-    let p = c .before .before .before .before .before .before .before .before .before .before .before .before .before .before .before .before .args .plan .now in
-    omega (arith, c .before .before .before .before .before .before .before .before .before .before .before .write-segments .ensures .ends, c .before .before .before .before .before .before .before .write-modules .ensures .ends, rows-short (segmentLine p) lineLimit (segment-short p) segmentLimit, rows-short (moduleLine p) lineLimit (module-short p) moduleLimit)
+write-line-requires c κs = omega (arith, modules-end (c .before .before .before .before .before .before .before))
 
 same-length-2 : tie.Need-same-length-2
 same-length-2 c = search needs
 
 returns-2 : tie.Need-returns-2
 returns-2 c =
-    let p = c .before .before .before .before .before .before .before .before .before .before .before .before .before .before .before .before .before .before .before .args .plan .now in
-    let r =
-    load-written p (c .before .before .before .before .before .before .before .before .before .before .before .before .before .before .before .before .before .before .before .args .text .now) _ _ _ _ _ _ (c .before .before .before .before .before .before .before .before .before .before .before .before .before .before .before .before .if1 .left) (c .before .before .before .before .before .before .before .before .before .before .before .before .before .before .write-segments .ensures) (c .before .before .before .before .before .before .before .before .before .before .write-modules .ensures) (c .before .before .write-line .ensures) in
-    (r, omega (arith, r .ends, report-short p))
+    let line = c .before .before in
+    let modules = line .before .before .before .before .before .before .before .before in
+    let segments = modules .before .before .before .before in
+    let loaded = segments .before .before in
+    let start = loaded .before .before .before .args in
+    let r = load-written (start .plan .now) (start .text .now) _ _ _ _ _ _ (loaded .if1 .left) (segments .write-segments .ensures) (modules .write-modules .ensures) (line .write-line .ensures) in
+    (r, omega (arith, r .ends, report-short (start .plan .now)))
 
 pub write-report-spec : {M : Type 1} → statement M
 write-report-spec =

@@ -1,14 +1,14 @@
 -- `report::digits::write_fields` meets its contract. The loop's invariant: the fields passed are written, and nothing else.
 -- Assumes nothing.
-use mathlib.Core.Path.{_≡_, ap, _∙_}
+use mathlib.Core.Path.{_≡_, _∙_}
 use mathlib.Core.List.{List, [], _∷_}
-use Prim.Native.Nat.{ℕ, _+_, _*_, _-_, _≤_}
+use Prim.Native.Nat.{ℕ, _*_, _-_, _≤_}
 use native.Mathlib.Omega.{arith}
 use lib.ListN.{length, getD}
 use Rattle.viertompu.specs.Rows.{rows}
 use Rattle.viertompu.specs.RowLaws.{length-rows}
 use Rattle.report.specs.Text.{Wrote, newline, fieldText, fieldsText}
-use Rattle.report.specs.TextLaws.{length-field, wrote, wrote-nothing, wrote-behind, wrote-row}
+use Rattle.report.specs.TextLaws.{length-field, wrote-nothing, wrote-behind, wrote-row}
 use borrow.Author.Needs.{needs}
 use Rattle.report.proofs.digits.write_fields.Statement.{statement}
 use Rattle.report.proofs.digits.write_fields.Tie as tie
@@ -51,17 +51,13 @@ loop-again c =
     let at-loop = c .before .before .before .before .before .before in
     (search needs, wrote-row _ _ (λ j. fieldText (getD (at-loop .before .before .before .args .fields .now) j 0)) (at-loop .loop .i) _ _ _ _ (at-loop .loop .inv .1) (c .before .before .write-field .ensures), c .before .before .write-field .kept .0 ∙ at-loop .loop .inv .2)
 
-slice-aggregate-write-bytes : tie.Need-slice-aggregate-write-bytes Inv-loop μ-loop
-slice-aggregate-write-bytes c = search needs
+slice-aggregate-write-text : tie.Need-slice-aggregate-write-text Inv-loop μ-loop
+slice-aggregate-write-text c = search needs
 
-write-bytes-requires : tie.Need-write-bytes-requires Inv-loop μ-loop
-write-bytes-requires c κs = search needs
-
-add-result : tie.Need-add-result Inv-loop μ-loop
-add-result c =
-    let at-loop = c .before .before .before .before .before .before in
-    let e : at-loop .loop .next ≡ at-loop .before .before .before .args .at + 9 * at-loop .loop .i = at-loop .loop .inv .1 .ends ∙ ap (λ (n : ℕ). at-loop .before .before .before .args .at + n) (length-fieldRows (at-loop .before .before .before .args .fields .now) (at-loop .loop .i)) in
-    omega arith
+write-text-requires : tie.Need-write-text-requires Inv-loop μ-loop
+write-text-requires c κs =
+    let at-loop = c .before .before .before in
+    omega (arith, length-fieldRows (at-loop .before .before .before .args .fields .now) (at-loop .loop .i), at-loop .loop .inv .1 .ends)
 
 same-length : tie.Need-same-length Inv-loop μ-loop
 same-length c = search needs
@@ -72,7 +68,7 @@ returns c =
     let at-loop = c .before .before .before .before .before .before in
     let fields = at-loop .before .before .before .args .fields .now in
     let e : at-loop .loop .i ≡ length fields = omega arith in
-    wrote-behind _ _ _ (newline ∷ []) _ _ _ _ (rw e at (at-loop .loop .inv .1)) (wrote _ _ (newline ∷ []) _ (c .before .before .write-bytes .ensures))
+    wrote-behind _ _ _ (newline ∷ []) _ _ _ _ (rw e at (at-loop .loop .inv .1)) (c .before .before .write-text .ensures)
 
 pub write-fields-spec : {M : Type 1} → statement M
 write-fields-spec =
@@ -87,8 +83,7 @@ write-fields-spec =
     add-i
     loop-less
     loop-again
-    slice-aggregate-write-bytes
-    write-bytes-requires
-    add-result
+    slice-aggregate-write-text
+    write-text-requires
     same-length
     returns)
