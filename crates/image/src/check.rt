@@ -10,7 +10,6 @@ ghost use mathlib.Core.Bool.{not, _&&_};
 ghost use Prim.Native.Nat.{_+_, _^_, _<_};
 ghost use lib.Dec.{eqb, ltb};
 ghost use Rattle.laws.specs.Checks.{firstOf};
-ghost use Rattle.image.specs.Header.{searched};
 ghost use Rattle.image.specs.Load.{loadEnd};
 ghost use Rattle.image.specs.Judged.{unknownRequest, noAddresses, cutOff, nothingLeft, pastImage, bssBelow, entryOutside, loadChecks};
 
@@ -30,14 +29,12 @@ pub fn no_addresses(flags: u32) -> bool
 
 // Whether the address fields of a header run past the searched part, or past the image of n bytes.
 pub fn cut_off(at: ImageOffset, n: usize) -> bool
-    requires { ⌜ at .0 < searched ⌝ }
     ensures { λ r. ⌜ r ≡ cutOff (at .0) n ⌝ }
 {
-    let end = at.0 + load::WHOLE_LENGTH;
-    if header::SEARCHED < end {
+    if header::SEARCHED - load::WHOLE_LENGTH < at.0 {
         return true;
     }
-    n < end
+    n < at.0 + load::WHOLE_LENGTH
 }
 
 // The first of checks 11 to 14 that refuses a load of `len` bytes from the offset, of an image of n bytes.

@@ -9,57 +9,12 @@ ghost use Rattle.review.specs.Review.{reviewOf};
 // The longest submission that is read.
 const INPUT: usize = 12288;
 
-// The board's memory map: usable memory of 0x9FC00 bytes from 0 on, and of 0x700000 bytes from 0x100000 on.
-const MAP: [u8; 48] = [
-    20,
-    0,
-    0,
-    0,
-    0,
-    0,
-    0,
-    0,
-    0,
-    0,
-    0,
-    0,
-    0,
-    0xFC,
-    0x09,
-    0,
-    0,
-    0,
-    0,
-    0,
-    1,
-    0,
-    0,
-    0,
-    20,
-    0,
-    0,
-    0,
-    0,
-    0,
-    0x10,
-    0,
-    0,
-    0,
-    0,
-    0,
-    0,
-    0,
-    0x70,
-    0,
-    0,
-    0,
-    0,
-    0,
-    1,
-    0,
-    0,
-    0,
-];
+// The board's memory map as words: two pairs of size 20, of usable memory, with 0x9FC00 bytes from 0 on and 0x700000 bytes
+// from 0x100000 on.
+const BOARD: [u32; 12] = [20, 0, 0, 0x9FC00, 0, 1, 20, 0x100000, 0, 0x700000, 0, 1];
+
+// The map's length in bytes.
+const MAP: usize = 48;
 
 // The window's first address, and its length.
 const FIRST: u32 = 0x100000;
@@ -84,7 +39,9 @@ fn review(submission: &[u8], text: &mut [u8]) -> usize
     ensures { λ r. ⌜ Wrote (now (text .entry)) 0 (reviewOf (now (submission .entry))) (now (text .exit)) r ⌝ }
     ensures { λ r. ⌜ r ≤ reportLimit ⌝ }
 {
-    let map = MAP;
+    let board = BOARD;
+    let mut map = [0; MAP];
+    number::write_words(&mut map, 0, &board);
     let mut window = [0; WINDOW];
     let mut plan = [0; viertompu::WORDS];
     viertompu::viertompu_load(submission, b"", &map, &mut window, FIRST, &mut plan);

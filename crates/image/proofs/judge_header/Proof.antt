@@ -68,7 +68,7 @@ returns-2 c =
     c .refusal2 .ensures ∙ no-addresses (found (first .before .before)) (told (first .before .unknown-request .ensures) (first .if1 .left)) (told (second .before .no-addresses .ensures) (second .if2 .taken))
 
 cut-off-requires : tie.Need-cut-off-requires
-cut-off-requires c κs = omega (arith, inside (c .before .before .before .before .before .before))
+cut-off-requires c κs = search needs
 
 refusal-requires-3 : tie.Need-refusal-requires-3
 refusal-requires-3 c κs = search needs

@@ -8,6 +8,15 @@ use borrow.Author.Needs.{needs}
 use Rattle.review.proofs.review.Statement.{statement}
 use Rattle.review.proofs.review.Tie as tie
 
+slice-aggregate-write-words : tie.Need-slice-aggregate-write-words
+slice-aggregate-write-words c = search needs
+
+slice-aggregate-write-words-2 : tie.Need-slice-aggregate-write-words-2
+slice-aggregate-write-words-2 c = search needs
+
+write-words-requires : tie.Need-write-words-requires
+write-words-requires c κs = search needs
+
 slice-aggregate-viertompu-load : tie.Need-slice-aggregate-viertompu-load
 slice-aggregate-viertompu-load c = search needs
 
@@ -28,13 +37,19 @@ same-length c = search needs
 
 returns : tie.Need-returns
 returns c =
-    let start = c .before .before .before .before .before .before .before .before .before .before .before .before .before in
-    (reviewed (start .args .submission .now) _ _ _ (start .args .text .now) _ _ map-is (length-replicate {A = ℕ} windowLength 0) (c .before .before .before .before .before .before .viertompu-load .ensures .1 .0) (c .before .before .write-report .ensures .0), c .before .before .write-report .ensures .1)
+    let reported = c .before .before in
+    let loaded = reported .before .before .before .before in
+    let mapped = loaded .before .before .before .before .before .before in
+    let start = mapped .before .before .before .before .before .args in
+    (reviewed (start .submission .now) _ _ _ (start .text .now) _ _ (map-is _ (mapped .write-words .ensures)) (length-replicate {A = ℕ} windowLength 0) (loaded .viertompu-load .ensures .1 .0) (reported .write-report .ensures .0), reported .write-report .ensures .1)
 
 pub review-spec : {M : Type 1} → statement M
 review-spec =
     tie.close
     (tie.spec
+    slice-aggregate-write-words
+    slice-aggregate-write-words-2
+    write-words-requires
     slice-aggregate-viertompu-load
     slice-aggregate-viertompu-load-2
     slice-aggregate-viertompu-load-3
