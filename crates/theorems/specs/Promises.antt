@@ -76,13 +76,13 @@ conditions x =
 
 -- what those conditions say that are searches
 pub record Searched (x : Lent) : Type 0 where
-  -- 1 and 2: the submission breaks a rule of its format
+  -- 1 and 2 do not apply: the submission keeps every rule of its format
   pub submission : (passes (submissionChecks (x .submission)) ≡ true) ↔ Accepted (x .submission)
-  -- 5: the map breaks a rule of a map
+  -- 5 does not apply: the map keeps every rule of a map
   pub map : (badMap (x .map) ≡ false) ↔ GoodMap (x .map)
-  -- 6: at no offset of the image stands a header
+  -- 6 applies: at no offset of the image stands a header
   pub header : (noHeader (header (imageIn x)) ≡ true) ↔ ((o : ℕ) → HeaderAt (imageIn x) o → ⊥)
-  -- 15: an address of the kernel's extents is not open
+  -- 15 does not apply: every address of the kernel's extents is open
   pub kernel : (kernelOpen (boardIn x) (kernelIn x) ≡ true) ↔ ((i : ℕ) → i < kernelIn x .count → (a : ℕ) → Holds (extentNo (kernelIn x) i) a → Open (boardIn x) a)
 
 -- 1. the answer

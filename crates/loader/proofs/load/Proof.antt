@@ -19,7 +19,11 @@ same-length : tie.Need-same-length
 same-length c = search needs
 
 returns : tie.Need-returns
-returns c = (c .before .before .before .before .before .before .before .decide .ensures, memory-loaded _ _ (c .before .before .before .before .before .before .before .decide .ensures) _ _ (sym (c .before .before .before .before .before .before .is-load .ensures) ∙ c .before .before .before .before .before .if1 .taken) (c .before .before .write-load .ensures))
+returns c =
+    let at-if1 = c .before .before .before .before .before in
+    let after-is-load = at-if1 .before in
+    let after-decide = after-is-load .before in
+    (after-decide .decide .ensures, memory-loaded _ _ (after-decide .decide .ensures) _ _ (sym (after-is-load .is-load .ensures) ∙ at-if1 .if1 .taken) (c .before .before .write-load .ensures))
 
 returns-2 : tie.Need-returns-2
 returns-2 c = (c .before .before .decide .ensures, memory-refused _ _ (c .before .before .decide .ensures) _ (sym (c .before .is-load .ensures) ∙ c .if1 .left))

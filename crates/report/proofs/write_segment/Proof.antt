@@ -58,8 +58,9 @@ same-length c = search needs
 
 returns-2 : tie.Need-returns-2
 returns-2 c =
-    let start = c .before .before .before .before .before .before .before .before .before .before .before .before in
-    rw (← segment-line (start .args .plan .now) (start .args .i) (c .before .before .before .before .before .before .before .before .before .if1 .left)) (c .before .before .write-line .ensures)
+    let at-if1 = c .before .before .before .before .before .before .before .before .before in
+    let start = at-if1 .before .before .before in
+    rw (← segment-line (start .args .plan .now) (start .args .i) (at-if1 .if1 .left)) (c .before .before .write-line .ensures)
 
 pub write-segment-spec : {M : Type 1} → statement M
 write-segment-spec =

@@ -16,7 +16,10 @@ write-modules-requires c κs = search needs
 
 returns : tie.Need-returns
 returns c =
-    plan-written (c .before .before .before .before .before .before .before .before .before .args .decision) _ _ _ (c .before .before .before .before .before .before .write-head .ensures) (c .before .before .before .write-segments .ensures) (c .write-modules .ensures)
+    let after-write-segments = c .before .before .before in
+    let after-write-head = after-write-segments .before .before .before in
+    let start = after-write-head .before .before .before in
+    plan-written (start .args .decision) _ _ _ (after-write-head .write-head .ensures) (after-write-segments .write-segments .ensures) (c .write-modules .ensures)
 
 pub write-plan-spec : {M : Type 1} → statement M
 write-plan-spec =

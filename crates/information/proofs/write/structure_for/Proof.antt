@@ -38,8 +38,11 @@ address-at-requires-3 c κs = search needs
 returns : tie.Need-returns
 unfolding structureAt
 returns c =
-    let o = c .before .before .before .before .before .before .part-offsets .ensures in
-    rw (c .before .before .before .before .before .flags .ensures, c .before .before .before .text-address .ensures, c .before .before .address-at .ensures, c .before .address-at2 .ensures, c .address-at3 .ensures, o .line, o .map, o .name) refl
+    let after-text-address = c .before .before .before in
+    let after-flags = after-text-address .before .before in
+    let after-part-offsets = after-flags .before in
+    let o = after-part-offsets .part-offsets .ensures in
+    rw (after-flags .flags .ensures, after-text-address .text-address .ensures, c .before .before .address-at .ensures, c .before .address-at2 .ensures, c .address-at3 .ensures, o .line, o .map, o .name) refl
 
 pub structure-for-spec : {M : Type 1} → statement M
 structure-for-spec =

@@ -30,20 +30,27 @@ add-rest : tie.Need-add-rest
 add-rest c = omega (arith, inside (c .before .before .before .before .before .before .before .before))
 
 write-tables-requires : tie.Need-write-tables-requires
-write-tables-requires c κs = (c .before .before .before .before .before .before .before .before .before .pre .0, omega (arith, inside (c .before .before .before .before .before .before .before .before .before)), omega (arith, low (c .before .before .before .before .before .before .before .before .before)))
+write-tables-requires c κs =
+    let start = c .before .before .before .before .before .before .before .before .before in
+    (start .pre .0, omega (arith, inside (start)), omega (arith, low (start)))
 
 write-parts-requires : tie.Need-write-parts-requires
-write-parts-requires c κs = (c .before .before .before .before .before .before .before .before .before .before .before .before .before .pre .1, omega (arith, inside (c .before .before .before .before .before .before .before .before .before .before .before .before .before)))
+write-parts-requires c κs =
+    let start = c .before .before .before .before .before .before .before .before .before .before .before .before .before in
+    (start .pre .1, omega (arith, inside (start)))
 
 same-length : tie.Need-same-length
 same-length c = search needs
 
 returns : tie.Need-returns
 returns c =
-    let start = c .before .before .before .before .before .before .before .before .before .before .before .before .before .before .before .before in
+    let after-write-tables = c .before .before .before .before .before .before in
+    let after-part-offsets = after-write-tables .before .before .before .before in
+    let after-structure-for = after-part-offsets .before in
+    let start = after-structure-for .before .before .before .before .before in
     let a = start .args in
-    let o = c .before .before .before .before .before .before .before .before .before .before .part-offsets .ensures in
-    block-written (a .window .now) (a .at) (a .submission .now) (a .layout) (a .spans) (a .map .now) (a .line .now) (a .start .0) (a .lower) (a .upper) _ _ _ _ _ (start .pre .1) (c .before .before .before .before .before .before .before .before .before .before .before .structure-for .ensures) (ap (λ (n : ℕ). a .start .0 + n) (o .strings)) (ap (λ (n : ℕ). a .at + n) (o .map)) (c .before .before .before .before .before .before .write-tables .ensures) (c .before .before .write-parts .ensures)
+    let o = after-part-offsets .part-offsets .ensures in
+    block-written (a .window .now) (a .at) (a .submission .now) (a .layout) (a .spans) (a .map .now) (a .line .now) (a .start .0) (a .lower) (a .upper) _ _ _ _ _ (start .pre .1) (after-structure-for .structure-for .ensures) (ap (λ (n : ℕ). a .start .0 + n) (o .strings)) (ap (λ (n : ℕ). a .at + n) (o .map)) (after-write-tables .write-tables .ensures) (c .before .before .write-parts .ensures)
 
 pub write-block-spec : {M : Type 1} → statement M
 write-block-spec =

@@ -91,12 +91,15 @@ loop-less c = search needs
 
 loop-again : tie.Need-loop-again Inv-loop μ-loop
 loop-again c =
-    let at-loop = c .before .before .before .before .before .before .before .before .before .before .before .before in
+    let after-write-words = c .before .before .before in
+    let after-text-address = after-write-words .before .before .before in
+    let in-loop = after-text-address .before .before .before .before .before in
+    let at-loop = in-loop .before in
     let start = at-loop .before .before in
     let l = start .args .t3 in
     let i = at-loop .loop .i in
-    let t = c .before .before .before .before .before .before .before .before .before .before .before .loop-test .taken in
-    (omega (arith, t), omega (arith, c .text-size .ensures, strings-more l i), entry-written (start .args .window .now) (start .args .at) l (start .args .t4) (start .args .strings) i (at-loop .loop .next) _ _ _ (at-loop .loop .inv .1) (c .before .before .before .before .before .before .text-address .ensures) (at-loop .loop .inv .2) (c .before .before .before .write-words .ensures), c .before .before .before .write-words .kept .0 ∙ at-loop .loop .inv .3)
+    let t = in-loop .loop-test .taken in
+    (omega (arith, t), omega (arith, c .text-size .ensures, strings-more l i), entry-written (start .args .window .now) (start .args .at) l (start .args .t4) (start .args .strings) i (at-loop .loop .next) _ _ _ (at-loop .loop .inv .1) (after-text-address .text-address .ensures) (at-loop .loop .inv .2) (after-write-words .write-words .ensures), after-write-words .write-words .kept .0 ∙ at-loop .loop .inv .3)
 
 same-length : tie.Need-same-length Inv-loop μ-loop
 same-length c = search needs

@@ -43,9 +43,13 @@ same-length c = search needs
 
 returns : tie.Need-returns
 returns c =
-    let start = c .before .before .before .before .before .before .before .before .before .before .before .before .before .before .before .before .before .before .before .before .before .before in
+    let after-write-text = c .before .before .before .before .before .before in
+    let after-write-bytes2 = after-write-text .before .before .before .before in
+    let after-write-bytes = after-write-bytes2 .before .before .before .before .before in
+    let after-text-size = after-write-bytes .before .before in
+    let start = after-text-size .before .before .before .before .before in
     let line = start .args .line .now in
-    parts-written (start .args .window .now) (start .args .at) (start .args .map .now) line _ _ _ _ _ _ (ap (λ (n : ℕ). start .args .at + length (start .args .map .now) + length loaderName + n) (c .before .before .before .before .before .before .before .before .before .before .before .before .before .before .before .before .before .text-size .ensures)) (c .before .before .before .before .before .before .before .before .before .before .before .before .before .before .before .write-bytes .ensures) (c .before .before .before .before .before .before .before .before .before .before .write-bytes2 .ensures) (c .before .before .before .before .before .before .write-text .ensures) (c .before .before .write-strings .ensures)
+    parts-written (start .args .window .now) (start .args .at) (start .args .map .now) line _ _ _ _ _ _ (ap (λ (n : ℕ). start .args .at + length (start .args .map .now) + length loaderName + n) (after-text-size .text-size .ensures)) (after-write-bytes .write-bytes .ensures) (after-write-bytes2 .write-bytes2 .ensures) (after-write-text .write-text .ensures) (c .before .before .write-strings .ensures)
 
 pub write-parts-spec : {M : Type 1} → statement M
 write-parts-spec =

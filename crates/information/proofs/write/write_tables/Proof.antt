@@ -25,7 +25,10 @@ same-length c = search needs
 
 returns : tie.Need-returns
 returns c =
-    tables-written _ _ (c .before .before .before .before .before .before .before .before .before .before .before .args .structure) _ _ _ _ (c .before .before .before .before .before .before .before .before .before .structure-words .ensures) (c .before .before .before .before .before .before .write-words .ensures) (c .before .before .write-entries .ensures)
+    let after-write-words = c .before .before .before .before .before .before in
+    let after-structure-words = after-write-words .before .before .before in
+    let start = after-structure-words .before .before in
+    tables-written _ _ (start .args .structure) _ _ _ _ (after-structure-words .structure-words .ensures) (after-write-words .write-words .ensures) (c .before .before .write-entries .ensures)
 
 pub write-tables-spec : {M : Type 1} → statement M
 write-tables-spec =

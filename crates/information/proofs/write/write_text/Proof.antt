@@ -27,7 +27,10 @@ same-length : tie.Need-same-length
 same-length c = search needs
 
 returns-2 : tie.Need-returns-2
-returns-2 c = text-written _ _ _ _ _ (c .before .before .before .before .before .before .before .before .before .if1 .left) (c .before .before .before .before .before .before .before .write-bytes .ensures) (c .before .before .write-bytes2 .ensures)
+returns-2 c =
+    let after-write-bytes = c .before .before .before .before .before .before .before in
+    let at-if1 = after-write-bytes .before .before in
+    text-written _ _ _ _ _ (at-if1 .if1 .left) (after-write-bytes .write-bytes .ensures) (c .before .before .write-bytes2 .ensures)
 
 pub write-text-spec : {M : Type 1} → statement M
 write-text-spec =

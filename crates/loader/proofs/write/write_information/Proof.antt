@@ -30,7 +30,13 @@ same-length : tie.Need-same-length
 same-length c = search needs
 
 returns : tie.Need-returns
-returns c = block-written _ _ _ _ _ _ _ _ _ _ _ _ _ _ (c .before .before .before .before .before .before .before .before .before .command-line .ensures) (c .before .before .before .before .before .before .before .before .parse .ensures) (c .before .before .before .before .before .before .mem-lower .ensures) (c .before .before .before .before .before .mem-upper .ensures) (c .before .before .before .before .offset-from .ensures) (c .before .before .write-block .ensures)
+returns c =
+    let after-offset-from = c .before .before .before .before in
+    let after-mem-upper = after-offset-from .before in
+    let after-mem-lower = after-mem-upper .before in
+    let after-parse = after-mem-lower .before .before in
+    let after-command-line = after-parse .before in
+    block-written _ _ _ _ _ _ _ _ _ _ _ _ _ _ (after-command-line .command-line .ensures) (after-parse .parse .ensures) (after-mem-lower .mem-lower .ensures) (after-mem-upper .mem-upper .ensures) (after-offset-from .offset-from .ensures) (c .before .before .write-block .ensures)
 
 pub write-information-spec : {M : Type 1} → statement M
 write-information-spec =

@@ -42,17 +42,22 @@ write-modules-requires c κs =
 
 write-information-requires : tie.Need-write-information-requires
 write-information-requires c κs =
-    let d = c .before .before .before .before .before .before .before .before .before .before .before .before .before .before .before in
+    let after-write-modules = c .before .before .before .before in
+    let after-write-kernel = after-write-modules .before .before .before .before in
+    let d = after-write-kernel .before .before .before .before .before .before .before in
     block-ready (x d) (load d) _ _ (start d .pre .plan) (layout-is d) _
-    (ap length (c .before .before .before .before .write-modules .ensures) ∙ length-written _ _ ∙ ap length (c .before .before .before .before .before .before .before .before .write-kernel .ensures) ∙ length-written _ _)
+    (ap length (after-write-modules .write-modules .ensures) ∙ length-written _ _ ∙ ap length (after-write-kernel .write-kernel .ensures) ∙ length-written _ _)
 
 same-length : tie.Need-same-length
 same-length c = search needs
 
 returns : tie.Need-returns
 returns c =
-    let d = c .before .before .before .before .before .before .before .before .before .before .before .before .before .before .before .before .before .before in
-    all-written (x d) (load d) _ _ (start d .pre .plan) (layout-is d) _ _ _ _ _ (c .before .before .before .before .before .before .before .before .before .before .before .before .before .bytes-of .ensures) (c .before .before .before .before .before .before .before .before .before .before .before .write-kernel .ensures) (c .before .before .before .before .before .before .before .write-modules .ensures) (c .before .before .write-information .ensures)
+    let after-write-modules = c .before .before .before .before .before .before .before in
+    let after-write-kernel = after-write-modules .before .before .before .before in
+    let after-bytes-of = after-write-kernel .before .before in
+    let d = after-bytes-of .before .before .before .before .before in
+    all-written (x d) (load d) _ _ (start d .pre .plan) (layout-is d) _ _ _ _ _ (after-bytes-of .bytes-of .ensures) (after-write-kernel .write-kernel .ensures) (after-write-modules .write-modules .ensures) (c .before .before .write-information .ensures)
 
 pub write-load-spec : {M : Type 1} → statement M
 write-load-spec =

@@ -51,9 +51,11 @@ loop-less c = search needs
 
 loop-again : tie.Need-loop-again Inv-loop μ-loop
 loop-again c =
-    let l = c .before .before .before .before .before .before .before .before .before in (
+    let after-offset-from = c .before .before .before in
+    let after-bytes-of = after-offset-from .before .before in
+    let l = after-bytes-of .before .before .before .before in (
       search needs,
-      module-written _ _ _ _ _ _ _ _ _ _ (l .loop .inv .1) (c .before .before .before .before .before .bytes-of .ensures) (c .before .before .before .offset-from .ensures) (c .before .before .write-bytes .ensures),
+      module-written _ _ _ _ _ _ _ _ _ _ (l .loop .inv .1) (after-bytes-of .bytes-of .ensures) (after-offset-from .offset-from .ensures) (c .before .before .write-bytes .ensures),
       same-size (l .before .before .before .args .window .now) _ _ _ _ (l .loop .inv .2) (c .before .before .write-bytes .ensures),
     )
 

@@ -30,7 +30,12 @@ same-length : tie.Need-same-length
 same-length c = search needs
 
 returns : tie.Need-returns
-returns c = segment-written _ _ _ _ _ _ _ _ _ _ (c .before .before .before .before .before .before .before .offset-from .ensures) (c .before .before .before .before .before .before .bytes-of .ensures) (c .before .before .before .before .offset-from2 .ensures) (c .before .before .before .offset-from3 .ensures) (c .before .before .write-filled .ensures)
+returns c =
+    let after-offset-from3 = c .before .before .before in
+    let after-offset-from2 = after-offset-from3 .before in
+    let after-bytes-of = after-offset-from2 .before .before in
+    let after-offset-from = after-bytes-of .before in
+    segment-written _ _ _ _ _ _ _ _ _ _ (after-offset-from .offset-from .ensures) (after-bytes-of .bytes-of .ensures) (after-offset-from2 .offset-from2 .ensures) (after-offset-from3 .offset-from3 .ensures) (c .before .before .write-filled .ensures)
 
 pub write-segment-spec : {M : Type 1} → statement M
 write-segment-spec =

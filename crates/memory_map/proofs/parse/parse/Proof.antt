@@ -140,9 +140,11 @@ loop-less c = search needs
 
 loop-again : tie.Need-loop-again Inv-loop μ-loop
 loop-again c =
-    let at-loop = c .before .before .before .before .before .before in
-    let b = c .before .before .before .broken in
-    one-more _ _ _ _ (at-loop .loop .inv) (c .before .before .before .before .if3 .left) (sym (b .ensures) ∙ c .before .before .if4 .left) _ (c .before .read-pair .ensures) _ (omega arith)
+    let after-broken = c .before .before .before in
+    let at-if3 = after-broken .before in
+    let at-loop = at-if3 .before .before in
+    let b = after-broken .broken in
+    one-more _ _ _ _ (at-loop .loop .inv) (at-if3 .if3 .left) (sym (b .ensures) ∙ c .before .before .if4 .left) _ (c .before .read-pair .ensures) _ (omega arith)
 
 returns-5 : tie.Need-returns-5 Inv-loop μ-loop
 returns-5 c = all-read _ _ _ _ (c .before .loop .inv) (c .before .before .before .before .before .if1 .left) (c .before .before .before .before .if2 .left) (c .loop-test .left)

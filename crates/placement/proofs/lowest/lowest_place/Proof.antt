@@ -27,7 +27,10 @@ sub-if1 : tie.Need-sub-if1 Inv-loop μ-loop
 sub-if1 c = search needs
 
 returns : tie.Need-returns Inv-loop μ-loop
-returns c = step-end _ _ _ (search needs) (c .before .before .before .before .before .before .before .before .before .pre .item) _ _ (c .before .before .before .before .before .before .before .loop .inv) (omega arith) (omega arith)
+returns c =
+    let at-loop = c .before .before .before .before .before .before .before in
+    let start = at-loop .before .before in
+    step-end _ _ _ (search needs) (start .pre .item) _ _ (at-loop .loop .inv) (omega arith) (omega arith)
 
 free-edge-requires : tie.Need-free-edge-requires Inv-loop μ-loop
 free-edge-requires c κs = search needs
@@ -37,31 +40,43 @@ free-at-requires c κs = search needs
 
 loop-less : tie.Need-loop-less Inv-loop μ-loop
 loop-less c =
+    let at-loop = c .before .before .before .before .before .before .before .before .before .before in
+    let start = at-loop .before .before in
     let f = sym (c .before .free-at .ensures) ∙ c .if3 .taken in
-    let g = step-on _ _ _ (search needs) (c .before .before .before .before .before .before .before .before .before .before .before .before .pre .item) _ _ _ (c .before .before .before .before .before .before .before .before .before .before .loop .inv) (omega arith) (c .before .before .free-edge .ensures) f in
+    let g = step-on _ _ _ (search needs) (start .pre .item) _ _ _ (at-loop .loop .inv) (omega arith) (c .before .before .free-edge .ensures) f in
     omega arith
 
 loop-again : tie.Need-loop-again Inv-loop μ-loop
 loop-again c =
+    let at-loop = c .before .before .before .before .before .before .before .before .before .before in
+    let start = at-loop .before .before in
     let f = sym (c .before .free-at .ensures) ∙ c .if3 .taken in
-    step-on _ _ _ (search needs) (c .before .before .before .before .before .before .before .before .before .before .before .before .pre .item) _ _ _ (c .before .before .before .before .before .before .before .before .before .before .loop .inv) (omega arith) (c .before .before .free-edge .ensures) f .1
+    step-on _ _ _ (search needs) (start .pre .item) _ _ _ (at-loop .loop .inv) (omega arith) (c .before .before .free-edge .ensures) f .1
 
 round-up-requires : tie.Need-round-up-requires Inv-loop μ-loop
 round-up-requires c κs =
-    let p = c .before .before .before .before .before .before .before .before .before .before .before .before .pre in
-    let l = round-small _ _ _ (search needs) (p .item) _ _ _ (c .before .before .before .before .before .before .before .before .before .before .loop .inv) (omega arith) (c .before .before .free-edge .ensures) in
+    let at-loop = c .before .before .before .before .before .before .before .before .before .before in
+    let start = at-loop .before .before in
+    let p = start .pre in
+    let l = round-small _ _ _ (search needs) (p .item) _ _ _ (at-loop .loop .inv) (omega arith) (c .before .before .free-edge .ensures) in
     search needs
 
 loop-less-2 : tie.Need-loop-less-2 Inv-loop μ-loop
 loop-less-2 c =
+    let after-free-edge = c .before .before .before in
+    let at-loop = after-free-edge .before .before .before .before .before .before .before .before in
+    let start = at-loop .before .before in
     let f = sym (c .before .before .free-at .ensures) ∙ c .before .if3 .left in
-    let g = step-past _ _ _ (search needs) (c .before .before .before .before .before .before .before .before .before .before .before .before .before .pre .item) _ _ _ (c .before .before .before .before .before .before .before .before .before .before .before .loop .inv) (omega arith) (c .before .before .before .free-edge .ensures) _ (omega arith) f (c .round-up .ensures) in
+    let g = step-past _ _ _ (search needs) (start .pre .item) _ _ _ (at-loop .loop .inv) (omega arith) (after-free-edge .free-edge .ensures) _ (omega arith) f (c .round-up .ensures) in
     omega arith
 
 loop-again-2 : tie.Need-loop-again-2 Inv-loop μ-loop
 loop-again-2 c =
+    let after-free-edge = c .before .before .before in
+    let at-loop = after-free-edge .before .before .before .before .before .before .before .before in
+    let start = at-loop .before .before in
     let f = sym (c .before .before .free-at .ensures) ∙ c .before .if3 .left in
-    step-past _ _ _ (search needs) (c .before .before .before .before .before .before .before .before .before .before .before .before .before .pre .item) _ _ _ (c .before .before .before .before .before .before .before .before .before .before .before .loop .inv) (omega arith) (c .before .before .before .free-edge .ensures) _ (omega arith) f (c .round-up .ensures) .1
+    step-past _ _ _ (search needs) (start .pre .item) _ _ _ (at-loop .loop .inv) (omega arith) (after-free-edge .free-edge .ensures) _ (omega arith) f (c .round-up .ensures) .1
 
 returns-2 : tie.Need-returns-2 Inv-loop μ-loop
 returns-2 c = step-found _ _ _ (search needs) (c .before .before .before .before .before .before .pre .item) _ _ (c .before .before .before .before .loop .inv) (omega arith)

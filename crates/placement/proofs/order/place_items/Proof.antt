@@ -68,11 +68,14 @@ loop-less c = search needs
 
 loop-again : tie.Need-loop-again Inv-loop μ-loop
 loop-again c =
-    let e = sym (c .before .before .before .before .before .before .lowest-place .ensures) ∙ c .before .before .before .before .place .given .1 in
+    let after-place = c .before .before .before .before in
+    let after-lowest-place = after-place .before .before in
+    let at-loop = after-lowest-place .before .before .before in
+    let e = sym (after-lowest-place .lowest-place .ensures) ∙ after-place .place .given .1 in
     let w = c .with-span .ensures in (
       search needs,
       omega (arith, grown _ _ _ w),
-      c .before .before .before .before .before .before .before .before .before .loop .inv .2 ∙ (from-at _ _ _ _ _ _ (omega arith) e ∙ ap (placedFrom _ _ _ _) (sym w)),
+      at-loop .loop .inv .2 ∙ (from-at _ _ _ _ _ _ (omega arith) e ∙ ap (placedFrom _ _ _ _) (sym w)),
     )
 
 returns-2 : tie.Need-returns-2 Inv-loop μ-loop

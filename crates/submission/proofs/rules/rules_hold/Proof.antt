@@ -66,16 +66,19 @@ strings-hold-requires c κs = search needs
 
 returns-5 : tie.Need-returns-5
 returns-5 c =
-    let at-start = c .before .before .before .before .before .before .before .before .before .before .before in
+    let after-bytes-of = c .before .before .before in
+    let at-if2 = after-bytes-of .before .before in
+    let after-entries-hold = at-if2 .before in
+    let at-start = after-entries-hold .before .before .before .before .before in
     let s = at-start .args .s .now in
     let l = at-start .args .l in
     let q = at-start .pre .0 in
     c .strings-hold .ensures
     ∙ sym
     (else-strings s (at-start .pre .2) (omega (arith, length-is s l q))
-    (entries-are s l q _ (c .before .before .before .before .before .before .entries-hold .ensures) ∙ not-false _ (c .before .before .before .before .before .if2 .left))
+    (entries-are s l q _ (after-entries-hold .entries-hold .ensures) ∙ not-false _ (at-if2 .if2 .left))
     (omega (arith, at-start .pre .1))
-    (zero-is s l q _ _ (c .before .before .before .bytes-of .ensures) (c .before .before .has-zero .ensures) ∙ c .before .if4 .left))
+    (zero-is s l q _ _ (after-bytes-of .bytes-of .ensures) (c .before .before .has-zero .ensures) ∙ c .before .if4 .left))
 
 pub rules-hold-spec : {M : Type 1} → statement M
 rules-hold-spec =
