@@ -20,9 +20,11 @@ extern "C" {
 #define VIERTOMPU_EBX 5             /* the number handed over in EBX: the information block's address */
 #define VIERTOMPU_BLOCK_START 6     /* the information block's start */
 #define VIERTOMPU_BLOCK_END 7       /* its end, exclusive */
-#define VIERTOMPU_SEGMENTS 8        /* sixteen segments of three words: start, load end, extent end; zeros past the last */
-#define VIERTOMPU_MODULES 56        /* sixteen modules of two words: start, end; zeros past the last */
-                                    /* words 88 to 95 are zero */
+#define VIERTOMPU_SEGMENTS 8        /* sixteen segments: start, load end, extent end; zeros past the last */
+#define VIERTOMPU_SEGMENT_WORDS 3   /* the words of a segment */
+#define VIERTOMPU_MODULES 56        /* sixteen modules: start, end; zeros past the last */
+#define VIERTOMPU_MODULE_WORDS 2    /* the words of a module */
+#define VIERTOMPU_ZEROS 88          /* from here on the words are zero */
 
 /*
  * Loads a submission into the window, which stands for physical memory from the address `first` on, and returns 0; or

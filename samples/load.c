@@ -26,10 +26,10 @@ int main(int argc, char **argv)
         printf("refused %u %u\n", (unsigned)plan[VIERTOMPU_NUMBER], (unsigned)plan[VIERTOMPU_ITEM]);
         return 0;
     }
-    for (const uint32_t *s = plan + VIERTOMPU_SEGMENTS; s < plan + VIERTOMPU_MODULES && s[2] != 0; s += 3)
+    for (const uint32_t *s = plan + VIERTOMPU_SEGMENTS; s < plan + VIERTOMPU_MODULES && s[2] != 0; s += VIERTOMPU_SEGMENT_WORDS)
         printf("kernel %08X %08X %08X %08X\n", (unsigned)s[0], (unsigned)s[1], (unsigned)s[2], (unsigned)plan[VIERTOMPU_ENTRY]);
-    for (const uint32_t *m = plan + VIERTOMPU_MODULES; m < plan + 88 && m[1] != 0; m += 2)
-        printf("module %u %08X %08X\n", (unsigned)((m - plan - VIERTOMPU_MODULES) / 2), (unsigned)m[0], (unsigned)m[1]);
+    for (const uint32_t *m = plan + VIERTOMPU_MODULES; m < plan + VIERTOMPU_ZEROS && m[1] != 0; m += VIERTOMPU_MODULE_WORDS)
+        printf("module %u %08X %08X\n", (unsigned)((m - plan - VIERTOMPU_MODULES) / VIERTOMPU_MODULE_WORDS), (unsigned)m[0], (unsigned)m[1]);
     printf("info %08X %08X\n", (unsigned)plan[VIERTOMPU_BLOCK_START], (unsigned)plan[VIERTOMPU_BLOCK_END]);
     return 0;
 }

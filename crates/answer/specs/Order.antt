@@ -4,7 +4,9 @@
 --     or-else-first, -second, -same, -load    laws of the first of two answers that refuses
 --     passes-is, load-is       a stage passes exactly where its answer is a load; that answer is Load
 --     check-passed             in a chain that ends in a load no check applied
---     First, numberedFrom      the first check that applies; checks that are numbered one after the other
+--     appliesAt, applies-front, applies-past    the check of an index, in a chain's first part and past its end
+--     answerAt, First, first-answer             the first check that applies gives its answer
+--     numberedFrom             checks that are numbered one after the other
 --     number-given, number-first    a number is given exactly where its check is the first that applies
 --     none-given, none-applies      0 is given exactly where none applies
 -- Assumes nothing.
@@ -16,6 +18,7 @@ use Prim.Native.Nat.{ℕ, zero, suc, _+_, _≤_, _<_}
 use native.Mathlib.Omega.{arith}
 use borrow.Author.Tests.{eqb-true, not-true}
 use lib.Dec.{eqb}
+use lib.ListN.{length}
 use Rattle.laws.specs.Checks.{Check, _gives_, firstOf, passes}
 use Rattle.laws.specs.CheckLaws.{passes-on}
 use Rattle.laws.specs.TestLaws.{and-left, and-right}
@@ -94,10 +97,35 @@ appliesAt [] k = false
 appliesAt (c ∷ ks) zero = c .applies
 appliesAt (c ∷ ks) (suc k) = appliesAt ks k
 
+-- the checks of a chain's first part
+pub applies-front : (ks ls : List (Check Answer)) (k : ℕ) → k < length ks → appliesAt (ks ++ ls) k ≡ appliesAt ks k
+applies-front [] ls k l = absurd (omega arith)
+applies-front (c ∷ ks) ls zero l = refl
+applies-front (c ∷ ks) ls (suc k) l = applies-front ks ls k (omega arith)
+
+pub applies-past : (ks : List (Check Answer)) (k : ℕ) → length ks ≤ k → appliesAt ks k ≡ false
+applies-past [] k l = refl
+applies-past (c ∷ ks) zero l = absurd (omega arith)
+applies-past (c ∷ ks) (suc k) l = applies-past ks k (omega arith)
+
+-- the answer of the check of the index k
+abbrev pub answerAt : List (Check Answer) → ℕ → Answer
+answerAt [] k = Load
+answerAt (c ∷ ks) zero = c .answer
+answerAt (c ∷ ks) (suc k) = answerAt ks k
+
 -- the check of the index k is the first that applies
 pub record First (ks : List (Check Answer)) (k : ℕ) : Type 0 where
   pub applies : appliesAt ks k ≡ true
   pub earliest : (j : ℕ) → j < k → appliesAt ks j ≡ false
+
+-- the first check that applies gives the answer
+pub first-answer : (ks : List (Check Answer)) (k : ℕ) → First ks k → firstOf ks Load ≡ answerAt ks k
+unfolding firstOf
+first-answer [] k f = absurd (false≢true (f .applies))
+first-answer (c ∷ ks) zero f = rw (f .applies)
+first-answer (c ∷ ks) (suc k) f =
+    rw (f .earliest 0 (omega arith)) (first-answer ks k (record { applies = f .applies; earliest = λ j l. f .earliest (suc j) (omega arith) }))
 
 -- the checks are numbered one after the other, from n on
 unfoldable pub numberedFrom : ℕ → List (Check Answer) → Bool

@@ -44,8 +44,8 @@ loadLength h offset n = cond (eqb (h .end .0) 0) (n - offset) (h .end .0 - h .lo
 
 -- load_addr + load length
 abbrev pub loadEnd : Fields → ℕ → ℕ
-loadEnd h length = h .load .0 + length
+loadEnd h len = h .load .0 + len
 
 -- the greater of the load end and bss_end_addr, where 0 means no bss
 abbrev pub extentEnd : Fields → ℕ → ℕ
-extentEnd h length = max (loadEnd h length) (h .bss .0)
+extentEnd h len = max (loadEnd h len) (h .bss .0)

@@ -205,11 +205,11 @@ loaded s l spans n = listed (loadedNo s l spans) n
 
 -- what the block of a load says
 abbrev pub contentsOf : List ℕ → Layout → List Span → List ℕ → List ℕ → ℕ → ℕ → ℕ → Contents
-contentsOf s l spans map line start lower upper = record {
+contentsOf s l spans m line start lower upper = record {
   start = start;
   lower = lower;
   upper = upper;
   modules = loaded s l spans (l .count);
-  map = map;
+  map = m;
   line = line;
 }

@@ -14,7 +14,7 @@ use Rattle.report.specs.Report.{reportOf}
 
 -- a pair of size 20: base, length, and type 1 for usable memory
 unfoldable pub pairBytes : ℕ → ℕ → List ℕ
-pairBytes base length = numberBytes 4 20 ++ numberBytes 8 base ++ numberBytes 8 length ++ numberBytes 4 1
+pairBytes base n = numberBytes 4 20 ++ numberBytes 8 base ++ numberBytes 8 n ++ numberBytes 4 1
 
 unfoldable pub boardMap : List ℕ
 boardMap = pairBytes 0 0x9FC00 ++ pairBytes 0x100000 0x700000

@@ -5,18 +5,19 @@
 -- Assumes nothing.
 use mathlib.Core.Path.{_≡_, refl, sym, ap, _∙_}
 use mathlib.Core.Bool.{true, false, false≢true}
-use mathlib.Core.List.{List, [], _∷_, map}
+use mathlib.Core.List.{List, map}
 use mathlib.Core.Logic.{_↔_}
-use Prim.Native.Nat.{ℕ, zero, suc, _+_, _<_}
+use Prim.Native.Nat.{ℕ, _+_, _<_}
 use native.Mathlib.Omega.{arith}
 use borrow.Author.Tests.{ne-eqb}
-use Rattle.laws.specs.Checks.{Check, firstOf}
+use Rattle.laws.specs.Checks.{Check}
 use Rattle.laws.specs.TestLaws.{all-intro, all-elim}
 use Rattle.address.specs.InsideLaws.{Holds}
 use Rattle.answer.specs.Answer.{numberOf, itemOf, isLoad}
-use Rattle.answer.specs.Order.{First, numberedFrom, number-given, number-first, none-given, none-applies}
+use Rattle.answer.specs.AnswerLaws.{item-none}
+use Rattle.answer.specs.Order.{answerAt, First, first-answer, numberedFrom, number-given, number-first, none-given, none-applies}
 use Rattle.answer.specs.declared.Answer.{Answer}
-use Rattle.answer.specs.declared.Answer.the-variants.{Load, NotASubmission, BadSubmission, BadOperatorLine, WindowPastTop, BadMemoryMap, NoHeader, UnknownRequest, NoAddressFields, HeaderCutOff, LoadBeforeImage, NothingToLoad, LoadPastImage, BssBelowLoadEnd, EntryOutsideLoad, KernelNotOpen, NoRoomForModule, NoRoomForInformation}
+use Rattle.answer.specs.declared.Answer.the-variants.{NoRoomForModule}
 use Rattle.submission.specs.Rules.{submissionChecks}
 use Rattle.submission.specs.RuleLaws.{accepted, rules-accept}
 use Rattle.submission.specs.CommandLine.{operatorChecks}
@@ -40,40 +41,6 @@ use Rattle.decision.specs.Decision.{lentChecks, checks, answerOf, placedIn, dec
 use Rattle.loader.specs.Memory.{memoryAfter}
 use Rattle.loader.specs.LoadLaws.{Loads}
 use Rattle.theorems.specs.Promises.{conditions, Answered, Searched, Found}
-
--- the answer of the check of the index k
-abbrev answerAt : List (Check Answer) → ℕ → Answer
-answerAt [] k = Load
-answerAt (c ∷ ks) zero = c .answer
-answerAt (c ∷ ks) (suc k) = answerAt ks k
-
--- the first check that applies gives the answer
-first-answer : (ks : List (Check Answer)) (k : ℕ) → First ks k → firstOf ks Load ≡ answerAt ks k
-unfolding firstOf
-first-answer [] k f = absurd (false≢true (f .applies))
-first-answer (c ∷ ks) zero f = rw (f .applies)
-first-answer (c ∷ ks) (suc k) f =
-    rw (f .earliest 0 (omega arith)) (first-answer ks k (record { applies = f .applies; earliest = λ j l. f .earliest (suc j) (omega arith) }))
-
-item-none : (a : Answer) → (numberOf a ≡ 16 → ⊥) → itemOf a ≡ 0
-item-none Load h = refl
-item-none NotASubmission h = refl
-item-none BadSubmission h = refl
-item-none BadOperatorLine h = refl
-item-none WindowPastTop h = refl
-item-none BadMemoryMap h = refl
-item-none NoHeader h = refl
-item-none UnknownRequest h = refl
-item-none NoAddressFields h = refl
-item-none HeaderCutOff h = refl
-item-none LoadBeforeImage h = refl
-item-none NothingToLoad h = refl
-item-none LoadPastImage h = refl
-item-none BssBelowLoadEnd h = refl
-item-none EntryOutsideLoad h = refl
-item-none KernelNotOpen h = refl
-item-none (NoRoomForModule i) h = absurd (h refl)
-item-none NoRoomForInformation h = refl
 
 module _ (x : Lent) where
   numbered : numberedFrom 1 (checks x) ≡ true

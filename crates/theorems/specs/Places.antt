@@ -4,19 +4,17 @@
 -- Assumes nothing.
 use mathlib.Core.Path.{_≡_, refl, sym, ap, _∙_}
 use mathlib.Core.Bool.{true, false}
-use mathlib.Core.List.{List, [], _∷_, _++_}
 use mathlib.Core.Logic.{_↔_, ⊎-elim}
-use Prim.Native.Nat.{ℕ, zero, suc, _+_, _-_, _≤_, _<_}
+use Prim.Native.Nat.{ℕ, _+_, _-_, _≤_, _<_}
 use native.Mathlib.Omega.{arith}
 use borrow.Author.Tests.{lt-ltb, le-ltb, not-false, eq-eqb}
 use lib.ListN.{length}
 use Rattle.address.specs.Address.{noSpan}
-use Rattle.laws.specs.Checks.{Check, firstOf}
+use Rattle.laws.specs.Checks.{firstOf}
 use Rattle.laws.specs.TableLaws.{table-at, table-past}
 use Rattle.laws.specs.TestLaws.{lt-or-le}
 use Rattle.answer.specs.Answer.{isLoad}
-use Rattle.answer.specs.Order.{appliesAt, chain-append, or-else-second, none-given}
-use Rattle.answer.specs.declared.Answer.{Answer}
+use Rattle.answer.specs.Order.{appliesAt, applies-front, applies-past, chain-append, or-else-second, none-given}
 use Rattle.answer.specs.declared.Answer.the-variants.{Load, NoRoomForModule, NoRoomForInformation}
 use Rattle.submission.specs.Rules.{submissionChecks}
 use Rattle.submission.specs.Format.{moduleLimit}
@@ -37,17 +35,6 @@ use Rattle.decision.specs.PlacedLaws.{item-at, item-module, item-block, in-orde
 use Rattle.decision.specs.StageLaws.{kernel-refuses}
 use Rattle.loader.specs.LoadLaws.{Loads, module-span, block-span, span-apart, one-segment}
 use Rattle.theorems.specs.Promises.{moduleSpan, Reached, SuitsIn, Placing, Apart}
-
--- the checks of a chain's first part
-applies-front : (ks ls : List (Check Answer)) (k : ℕ) → k < length ks → appliesAt (ks ++ ls) k ≡ appliesAt ks k
-applies-front [] ls k l = absurd (omega arith)
-applies-front (c ∷ ks) ls zero l = refl
-applies-front (c ∷ ks) ls (suc k) l = applies-front ks ls k (omega arith)
-
-applies-past : (ks : List (Check Answer)) (k : ℕ) → length ks ≤ k → appliesAt ks k ≡ false
-applies-past [] k l = refl
-applies-past (c ∷ ks) zero l = absurd (omega arith)
-applies-past (c ∷ ks) (suc k) l = applies-past ks k (omega arith)
 
 -- what the checks of the room answer
 module _ (done n : ℕ) where
