@@ -10,10 +10,10 @@ use Rattle.memory_map.specs.Usable.{limit}
 use Rattle.placement.specs.declared.Placed.{Placed}
 use Rattle.decision.specs.declared.Decision.{Decision}
 use Rattle.decision.specs.Lent.{Lent, layoutIn, kernelIn, boardIn, blockIn}
-use Rattle.decision.specs.Gather.{extentsOf, itemsOf}
+use Rattle.items.specs.LoadItems.{extentsOf, itemsOf}
 use Rattle.decision.specs.Decided.{kernelChecks, roomChecks, placedBy, planOf, decidedBy}
 use Rattle.decision.specs.Decision.{lentChecks, checks, placedIn, decisionOf}
-use Rattle.decision.specs.PlacedLaws.{items-bounded}
+use Rattle.items.specs.LoadItemsLaws.{items-bounded}
 use Rattle.cases.specs.Walk.{computedFrom, items-compute}
 
 unfoldable pub modelIn : Lent → Placed

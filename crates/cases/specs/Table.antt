@@ -23,7 +23,7 @@ use Rattle.edge.specs.Edge.{nearest, spanEdge, edgeUpTo}
 use Rattle.submission.specs.Scan.{hasZero, sameBytes}
 use Rattle.submission.specs.Format.{dataStart, layoutOf}
 use Rattle.submission.specs.Rules.{isSubmission, inLimits, stringHolds, rulesHold, submissionChecks}
-use Rattle.submission.specs.CommandLine.{operatorChecks, lineInForce, commandLine}
+use Rattle.command_line.specs.CommandLine.{operatorChecks, lineInForce, commandLine}
 use Rattle.image.specs.Header.{magic, words, isHeader, headerFrom, header}
 use Rattle.image.specs.Load.{fieldsAt, loadLength}
 use Rattle.image.specs.Judged.{headerChecks, loadChecks, imageChecks, kernelAt, kernelOf, segmentNo}
@@ -39,7 +39,7 @@ use Rattle.placement.specs.Order.{withSpan}
 use Rattle.information.specs.Information.{textSize, textsSize, stringLengths, blockLength}
 use Rattle.decision.specs.declared.Decision.{Decision}
 use Rattle.decision.specs.Lent.{Lent}
-use Rattle.decision.specs.Gather.{extentsOf, itemNo, itemsOf, moduleSpans}
+use Rattle.items.specs.LoadItems.{extentsOf, itemNo, itemsOf, moduleSpans}
 use Rattle.decision.specs.Decided.{extentOpen, kernelOpen, kernelChecks, roomChecks, planOf, noPlan, decidedBy}
 use Rattle.decision.specs.Decision.{lentChecks, decisionOf}
 use Rattle.cases.specs.Walk.{walk, computed, computedFrom}

@@ -28,7 +28,7 @@ use Rattle.placement.specs.Order.{placeItems}
 use Rattle.address.specs.Address.{noSpan}
 use Rattle.decision.specs.declared.Plan.{Plan}
 use Rattle.decision.specs.declared.Decision.{Decision}
-use Rattle.decision.specs.Gather.{extentNo, extentsOf, itemsOf, moduleSpans}
+use Rattle.items.specs.LoadItems.{extentNo, extentsOf, itemsOf, moduleSpans}
 
 -- the kernel's extents lie wholly in open memory
 unfoldable pub extentOpen : Board → Kernel → ℕ → Bool

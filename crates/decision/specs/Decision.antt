@@ -11,7 +11,7 @@ use Rattle.laws.specs.Checks.{Check, firstOf}
 use Rattle.answer.specs.declared.Answer.{Answer}
 use Rattle.answer.specs.declared.Answer.the-variants.{Load}
 use Rattle.submission.specs.Rules.{submissionChecks}
-use Rattle.submission.specs.CommandLine.{operatorChecks}
+use Rattle.command_line.specs.CommandLine.{operatorChecks}
 use Rattle.board.specs.Window.{windowChecks}
 use Rattle.memory_map.specs.Pairs.{mapChecks}
 use Rattle.image.specs.Judged.{imageChecks}

@@ -26,8 +26,8 @@ use Rattle.submission.specs.Format.{moduleCount, moduleLimit, bytesOf, moduleNo
 use Rattle.submission.specs.FormatLaws.{layout-count, module-at}
 use Rattle.submission.specs.Rules.{submissionChecks, lineLimit, stringLimit, parsed}
 use Rattle.submission.specs.RuleLaws.{Accepted, accepted, submission-refuses, parsed-layout}
-use Rattle.submission.specs.CommandLine.{operatorChecks}
-use Rattle.submission.specs.CommandLineLaws.{operator-refuses, line-length}
+use Rattle.command_line.specs.CommandLine.{operatorChecks}
+use Rattle.command_line.specs.CommandLineLaws.{operator-refuses, line-length}
 use Rattle.address.specs.declared.Span.{Span}
 use Rattle.memory_map.specs.declared.MemMap.{MemMap}
 use Rattle.image.specs.declared.Kernel.{Kernel}

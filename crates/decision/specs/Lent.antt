@@ -10,7 +10,7 @@ use Prim.Native.Nat.{ℕ}
 use lib.ListN.{length}
 use Rattle.submission.specs.declared.Layout.{Layout}
 use Rattle.submission.specs.Format.{layoutOf, bytesOf}
-use Rattle.submission.specs.CommandLine.{commandLine}
+use Rattle.command_line.specs.CommandLine.{commandLine}
 use Rattle.image.specs.declared.Kernel.{Kernel}
 use Rattle.image.specs.Judged.{kernelOf}
 use Rattle.memory_map.specs.Pairs.{mapOf}

@@ -1,7 +1,6 @@
 -- The definitions that the contracts of `decision` cite, and their laws. `Decision` is where to start: the order of checks.
 pub mod Decision
 pub mod Lent
-pub mod Gather
 pub mod Decided
 pub mod DecidedLaws
 pub mod PlacedLaws

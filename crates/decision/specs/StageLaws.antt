@@ -21,7 +21,7 @@ use Rattle.placement.specs.declared.Items.{Items}
 use Rattle.placement.specs.declared.Spans.{Spans}
 use Rattle.placement.specs.declared.Placed.{Placed}
 use Rattle.placement.specs.Order.{placeItems}
-use Rattle.decision.specs.Gather.{extentsOf, itemsOf}
+use Rattle.items.specs.LoadItems.{extentsOf, itemsOf}
 use Rattle.decision.specs.Decided.{kernelOpen, kernelChecks, roomChecks, noPlan, decidedBy, placedBy, memoryPlan, memoryDecision}
 use Rattle.decision.specs.DecidedLaws.{stage-refuses, stage-passes}
 

@@ -7,7 +7,6 @@ ghost use mathlib.Core.Path.{_≡_};
 ghost use Rattle.answer.specs.Answer.{orElse};
 ghost use Rattle.decision.specs.Decision.{decisionOf};
 
-pub mod gather;
 pub mod place;
 
 // Where everything of a load lies, and what is handed over besides the entry; past the last module the spans are zero.
@@ -40,7 +39,7 @@ pub fn decide<'a>(
     let parsed = memory_map::parse::parse(map);
     let judged = image::judge(submission::bytes_of(submission, layout.image));
     let of_submission = read.answer;
-    let of_operator = submission::check_operator(operator);
+    let of_operator = command_line::check_operator(operator);
     let of_window = board::window::check_window(first, size);
     let of_map = parsed.answer;
     let of_image = judged.answer;
@@ -48,7 +47,7 @@ pub fn decide<'a>(
     if !answer::is_load(verdict) {
         return place::refuse(verdict);
     }
-    let line = submission::command_line(operator, submission);
+    let line = command_line::in_force(operator, submission);
     let length = information::size::block_length(layout, map.len(), line.len());
     let map = parsed.map;
     let window = board::window::window_span(first, size);

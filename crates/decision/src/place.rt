@@ -1,7 +1,6 @@
 // The checks on memory, 15 to 17, and the plan.
 use crate::Decision;
 use crate::Plan;
-use crate::gather;
 use address::PhysAddr;
 use address::Span;
 use answer::Answer;
@@ -29,7 +28,7 @@ fn kernel_open(board: Board, kernel: Kernel) -> bool
 {
     let mut i = 0;
     while i < kernel.count {
-        if !board::all_open(board, gather::extent(kernel, i)) {
+        if !board::all_open(board, items::extent(kernel, i)) {
             return false;
         }
         i += 1;
@@ -60,7 +59,7 @@ fn plan_of(kernel: Kernel, spans: Spans, n: usize) -> Plan
     let block = spans.list[at];
     Plan {
         kernel,
-        modules: gather::module_spans(spans, kernel.count, n),
+        modules: items::module_spans(spans, kernel.count, n),
         block,
         eax: BOOT_MAGIC,
         ebx: block.start.0 as u32,
@@ -91,8 +90,8 @@ pub fn decide_memory(board: Board, kernel: Kernel, layout: Layout, size: u64) ->
     if !kernel_open(board, kernel) {
         return refuse(Answer::KernelNotOpen);
     }
-    let items = gather::items(layout, kernel.pages, size);
-    let placed = placement::order::place_items(board, gather::extents(kernel), items);
+    let items = items::items(layout, kernel.pages, size);
+    let placed = placement::order::place_items(board, items::extents(kernel), items);
     let verdict = check_room(placed.done, layout.count);
     if !answer::is_load(verdict) {
         return refuse(verdict);

@@ -14,7 +14,7 @@ use Rattle.address.specs.declared.Span.{Span}
 use Rattle.address.specs.Address.{spanNo}
 use Rattle.submission.specs.declared.Layout.{Layout}
 use Rattle.submission.specs.Format.{bytesOf, moduleNo}
-use Rattle.submission.specs.CommandLine.{commandLine}
+use Rattle.command_line.specs.CommandLine.{commandLine}
 use Rattle.memory_map.specs.declared.parse.Parsed.{Parsed as ParsedMap}
 use Rattle.memory_map.specs.Pairs.{parsed as parsedMap}
 use Rattle.memory_map.specs.Sizes.{memLower, memUpper}

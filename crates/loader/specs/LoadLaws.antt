@@ -28,11 +28,12 @@ use Rattle.address.specs.InsideLaws.{Holds}
 use Rattle.placement.specs.Order.{itemAt}
 use Rattle.placement.specs.Placing.{InOrder, Stands}
 use Rattle.decision.specs.Lent.{Lent, layoutIn, imageIn, kernelIn, boardIn, blockIn}
-use Rattle.decision.specs.Gather.{extentNo, extentsOf, itemsOf, moduleSpans}
+use Rattle.items.specs.LoadItems.{extentNo, extentsOf, itemsOf, moduleSpans}
 use Rattle.decision.specs.Decided.{extentOpen, kernelOpen, kernelChecks, planOf}
 use Rattle.decision.specs.Decision.{lentChecks, checks, answerOf, placedIn, planIn}
 use Rattle.decision.specs.DecisionLaws.{lent-refuses, Passed, passed, prepared}
-use Rattle.decision.specs.PlacedLaws.{item-at, item-some, item-module, item-block, in-order}
+use Rattle.items.specs.LoadItemsLaws.{item-at, item-module, item-block}
+use Rattle.decision.specs.PlacedLaws.{item-some, in-order}
 use Rattle.decision.specs.StageLaws.{kernel-refuses, kernel-passed, all-placed}
 
 -- what is known where no check refuses

@@ -19,7 +19,7 @@ use Rattle.answer.specs.Answer.{isLoad}
 use Rattle.submission.specs.declared.Layout.{Layout}
 use Rattle.submission.specs.Format.{bytesOf, moduleNo}
 use Rattle.image.specs.declared.Kernel.{Kernel}
-use Rattle.submission.specs.CommandLine.{commandLine}
+use Rattle.command_line.specs.CommandLine.{commandLine}
 use Rattle.memory_map.specs.Pairs.{parsed}
 use Rattle.memory_map.specs.Sizes.{memLower, memUpper}
 use Rattle.information.specs.Information.{Contents, contentsOf, blockOf}

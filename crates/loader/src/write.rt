@@ -13,7 +13,7 @@ ghost use Rattle.laws.specs.Table.{listed};
 ghost use Rattle.memory.specs.Patched.{patched, zeros};
 ghost use Rattle.memory.specs.Writes.{written};
 ghost use Rattle.submission.specs.Format.{moduleLimit};
-ghost use Rattle.submission.specs.CommandLine.{commandLine};
+ghost use Rattle.command_line.specs.CommandLine.{commandLine};
 ghost use Rattle.information.specs.Information.{blockOf};
 ghost use Rattle.information.specs.Writing.{SpansLow, StringsIn, Room};
 ghost use Rattle.image.specs.Judged.{segmentLimit};
@@ -67,7 +67,7 @@ fn write_information<'a>(
     requires { ⌜ SpansLow layout modules × StringsIn (now submission) layout × Room layout (length (now map)) (length (commandLine (now operator) (now submission))) (start .0) (start .0 - base .0) (length (now window)) ⌝ }
     ensures { λ _. ⌜ now (window .exit) ≡ patched (now (window .entry)) (start .0 - base .0) (blockOf (contentsFor (now (submission .entry)) (now (operator .entry)) (now (map .entry)) layout modules (start .0))) ⌝ }
 {
-    let line = submission::command_line(operator, submission);
+    let line = command_line::in_force(operator, submission);
     let parsed = memory_map::parse::parse(map);
     let pairs = parsed.map;
     let lower = memory_map::sizes::mem_lower(pairs);

@@ -5,5 +5,3 @@ pub mod Format
 pub mod FormatLaws
 pub mod Rules
 pub mod RuleLaws
-pub mod CommandLine
-pub mod CommandLineLaws

@@ -1,14 +1,12 @@
 // A submission in the KSB format: where its parts lie, and whether it keeps the format's rules.
 ghost use mathlib.Core.Path.{_≡_};
-ghost use Rattle.laws.specs.Checks.{firstOf};
 ghost use Rattle.submission.specs.Format.{noLayout, bytesOf};
 ghost use Rattle.submission.specs.Rules.{parsed};
-ghost use Rattle.submission.specs.CommandLine.{operatorChecks, commandLine};
 use answer::Answer;
 
 mod read;
 mod rules;
-mod scan;
+pub mod scan;
 
 // The header's size.
 pub const HEADER: usize = 12;
@@ -84,38 +82,6 @@ fn refused(a: Answer) -> Parsed
         answer: a,
         layout: read::no_layout(),
     }
-}
-
-// The answer for an operator's line: 3, or none.
-pub fn check_operator(line: &[u8]) -> Answer
-    ensures { λ r. ⌜ r ≡ firstOf (operatorChecks (now (line .entry))) Answer.Load ⌝ }
-{
-    if LINE < line.len() {
-        return Answer::BadOperatorLine;
-    }
-    if scan::has_zero(line) {
-        return Answer::BadOperatorLine;
-    }
-    Answer::Load
-}
-
-// The command line in force, as a part of the operator's line or of the submission; empty where either is refused.
-pub fn command_line<'a>(operator: &'a [u8], submission: &'a [u8]) -> &'a [u8]
-    ensures { λ r. ⌜ now r ≡ commandLine (now (operator .entry)) (now (submission .entry)) ⌝ }
-{
-    let read = parse(submission);
-    let verdict = read.answer;
-    if !answer::is_load(verdict) {
-        return &submission[..0];
-    }
-    if !answer::is_load(check_operator(operator)) {
-        return &operator[..0];
-    }
-    if 0 < operator.len() {
-        return operator;
-    }
-    let layout = read.layout;
-    bytes_of(submission, layout.line)
 }
 
 // The bytes of a part, cut where the slice ends.

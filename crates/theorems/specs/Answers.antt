@@ -20,7 +20,7 @@ use Rattle.answer.specs.declared.Answer.{Answer}
 use Rattle.answer.specs.declared.Answer.the-variants.{NoRoomForModule}
 use Rattle.submission.specs.Rules.{submissionChecks}
 use Rattle.submission.specs.RuleLaws.{accepted, rules-accept}
-use Rattle.submission.specs.CommandLine.{operatorChecks}
+use Rattle.command_line.specs.CommandLine.{operatorChecks}
 use Rattle.board.specs.Window.{windowChecks}
 use Rattle.board.specs.declared.Board.{Board}
 use Rattle.board.specs.OpenLaws.{Open, open-is, all-open-is}
@@ -35,7 +35,7 @@ use Rattle.image.specs.Judged.{noHeader, headerChecks, loadChecks, imageChecks}
 use Rattle.image.specs.JudgedLaws.{calculated}
 use Rattle.image.specs.JudgedLaws.{accepted as accepted-image}
 use Rattle.decision.specs.Lent.{Lent, imageIn, kernelIn, boardIn}
-use Rattle.decision.specs.Gather.{extentNo}
+use Rattle.items.specs.LoadItems.{extentNo}
 use Rattle.decision.specs.Decided.{extentOpen, kernelOpen, kernelChecks, roomChecks, planOf, noPlan, decidedBy}
 use Rattle.decision.specs.Decision.{lentChecks, checks, answerOf, placedIn, decisionOf}
 use Rattle.loader.specs.Memory.{memoryAfter}

@@ -27,7 +27,7 @@ use Rattle.address.specs.InsideLaws.{Holds}
 use Rattle.information.specs.Information.{blockOf}
 use Rattle.information.specs.WritingLaws.{length-load}
 use Rattle.decision.specs.Lent.{Lent, layoutIn, imageIn, kernelIn, lineIn}
-use Rattle.decision.specs.Gather.{extentNo}
+use Rattle.items.specs.LoadItems.{extentNo}
 use Rattle.decision.specs.Decided.{planOf}
 use Rattle.decision.specs.Decision.{answerOf, planIn}
 use Rattle.loader.specs.Memory.{segmentWrite, segmentWrites, moduleWrite, moduleWrites, contentsIn, blockWrite, writesOf, memoryAfter}

@@ -18,7 +18,7 @@ use Rattle.answer.specs.Order.{appliesAt, applies-front, applies-past, chain-ap
 use Rattle.answer.specs.declared.Answer.the-variants.{Load, NoRoomForModule, NoRoomForInformation}
 use Rattle.submission.specs.Rules.{submissionChecks}
 use Rattle.submission.specs.Format.{moduleLimit}
-use Rattle.submission.specs.CommandLine.{operatorChecks}
+use Rattle.command_line.specs.CommandLine.{operatorChecks}
 use Rattle.board.specs.Window.{windowChecks}
 use Rattle.board.specs.Open.{openAt}
 use Rattle.memory_map.specs.Pairs.{mapChecks}
@@ -27,11 +27,12 @@ use Rattle.image.specs.JudgedLaws.{accepted}
 use Rattle.placement.specs.Free.{maxSpans, spanAt}
 use Rattle.placement.specs.Placing.{InOrder}
 use Rattle.decision.specs.Lent.{Lent, layoutIn, imageIn, kernelIn, boardIn, blockIn}
-use Rattle.decision.specs.Gather.{extentNo, extentsOf, itemsOf, moduleSpans}
+use Rattle.items.specs.LoadItems.{extentNo, extentsOf, itemsOf, moduleSpans}
 use Rattle.decision.specs.Decided.{kernelOpen, kernelChecks, roomChecks, memoryChecks, planOf}
 use Rattle.decision.specs.Decision.{lentChecks, checks, answerOf, placedIn}
 use Rattle.decision.specs.DecisionLaws.{lent-refuses, passed, prepared}
-use Rattle.decision.specs.PlacedLaws.{item-at, item-module, item-block, in-order}
+use Rattle.items.specs.LoadItemsLaws.{item-at, item-module, item-block}
+use Rattle.decision.specs.PlacedLaws.{in-order}
 use Rattle.decision.specs.StageLaws.{kernel-refuses}
 use Rattle.loader.specs.LoadLaws.{Loads, module-span, block-span, span-apart, one-segment}
 use Rattle.theorems.specs.Promises.{moduleSpan, Reached, SuitsIn, Placing, Apart}

@@ -44,7 +44,7 @@ use Rattle.placement.specs.Placing.{Suits, Stands, upTo}
 use Rattle.information.specs.Information.{flagsAt, lowerAt, upperAt, lineAt, countAt, modulesAt, mapLengthAt, mapAt, nameAt, structureSize, entrySize, loaderName, flagsOf, addressOf, mapOffset, nameOffset, lineOffset, blockOf}
 use Rattle.information.specs.Reading.{fieldsAt, stringAddress}
 use Rattle.decision.specs.Lent.{Lent, layoutIn, imageIn, kernelIn, lineIn, boardIn, blockIn}
-use Rattle.decision.specs.Gather.{extentNo, itemsOf}
+use Rattle.items.specs.LoadItems.{extentNo, itemsOf}
 use Rattle.decision.specs.Decided.{kernelOpen, noPlan, bootMagic}
 use Rattle.decision.specs.Decision.{checks, answerOf, placedIn, planIn, decisionOf}
 use Rattle.loader.specs.Memory.{contentsIn, memoryAfter}

@@ -75,15 +75,15 @@ returns c =
     let d = c .before .before .before in
     c .refuse .ensures ∙ decided-refused (x d) _ (verdict d) (sym (c .before .before .is-load .ensures) ∙ not-true _ (c .before .if1 .taken))
 
-command-line-requires : tie.Need-command-line-requires
-command-line-requires c κs = search needs
+in-force-requires : tie.Need-in-force-requires
+in-force-requires c κs = search needs
 
 block-length-requires : tie.Need-block-length-requires
 block-length-requires c κs =
     let d = c .before .before .before in
     let h = passes (c .before) in
     let p = passed (x d) (loads d h) in
-    rw (layout-is d h, c .command-line .ensures) (prepared (x d) p .modules, omega (arith, block-small (x d) p .1))
+    rw (layout-is d h, c .in-force .ensures) (prepared (x d) p .modules, omega (arith, block-small (x d) p .1))
 
 window-span-requires : tie.Need-window-span-requires
 window-span-requires c κs =
@@ -99,7 +99,7 @@ module _ (c : tie.After-kernel) where
   loaded = passes (c .before .before .before .before .before)
 
   block : c .before .before .before .block-length .result ≡ blockIn (x d)
-  block = block-is (x d) _ _ _ (layout-is d loaded) (c .before .before .before .before .command-line .ensures) (c .before .before .before .block-length .ensures)
+  block = block-is (x d) _ _ _ (layout-is d loaded) (c .before .before .before .before .in-force .ensures) (c .before .before .before .block-length .ensures)
 
   board : record { map = d .before .before .before .before .before .parse2 .result .map; window = c .before .window-span .result } ≡ boardIn (x d)
   board = board-is (x d) _ _ (map-is d loaded) (c .before .window-span .ensures)
@@ -126,7 +126,7 @@ decide-spec =
     is-load-requires
     refuse-requires
     returns
-    command-line-requires
+    in-force-requires
     block-length-requires
     window-span-requires
     decide-memory-requires

@@ -12,7 +12,7 @@ use Rattle.address.specs.declared.Span.{Span}
 use Rattle.image.specs.declared.Kernel.{Kernel}
 use Rattle.board.specs.declared.Board.{Board}
 use Rattle.board.specs.Open.{openAt}
-use Rattle.decision.specs.Gather.{extentNo}
+use Rattle.items.specs.LoadItems.{extentNo}
 use Rattle.decision.specs.Decided.{extentOpen, kernelOpen}
 use borrow.Author.Needs.{needs}
 use Rattle.decision.proofs.place.kernel_open.Statement.{statement}

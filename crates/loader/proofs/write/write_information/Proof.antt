@@ -6,8 +6,8 @@ use borrow.Author.Needs.{needs}
 use Rattle.loader.proofs.write.write_information.Statement.{statement}
 use Rattle.loader.proofs.write.write_information.Tie as tie
 
-command-line-requires : tie.Need-command-line-requires
-command-line-requires c κs = search needs
+in-force-requires : tie.Need-in-force-requires
+in-force-requires c κs = search needs
 
 parse-requires : tie.Need-parse-requires
 parse-requires c κs = search needs
@@ -24,7 +24,7 @@ offset-from-requires c κs = search needs
 write-block-requires : tie.Need-write-block-requires
 write-block-requires c κs =
     let x = c .before .before .before .before .before .before .before .before .before .before .before in
-    (x .pre .0, x .pre .1, block-room _ _ _ _ _ _ _ _ (c .before .before .before .before .before .before .command-line .ensures) (c .before .offset-from .ensures) (x .pre .2))
+    (x .pre .0, x .pre .1, block-room _ _ _ _ _ _ _ _ (c .before .before .before .before .before .before .in-force .ensures) (c .before .offset-from .ensures) (x .pre .2))
 
 same-length : tie.Need-same-length
 same-length c = search needs
@@ -35,14 +35,14 @@ returns c =
     let after-mem-upper = after-offset-from .before in
     let after-mem-lower = after-mem-upper .before in
     let after-parse = after-mem-lower .before .before in
-    let after-command-line = after-parse .before in
-    block-written _ _ _ _ _ _ _ _ _ _ _ _ _ _ (after-command-line .command-line .ensures) (after-parse .parse .ensures) (after-mem-lower .mem-lower .ensures) (after-mem-upper .mem-upper .ensures) (after-offset-from .offset-from .ensures) (c .before .before .write-block .ensures)
+    let after-in-force = after-parse .before in
+    block-written _ _ _ _ _ _ _ _ _ _ _ _ _ _ (after-in-force .in-force .ensures) (after-parse .parse .ensures) (after-mem-lower .mem-lower .ensures) (after-mem-upper .mem-upper .ensures) (after-offset-from .offset-from .ensures) (c .before .before .write-block .ensures)
 
 pub write-information-spec : {M : Type 1} → statement M
 write-information-spec =
     tie.close
     (tie.spec
-    command-line-requires
+    in-force-requires
     parse-requires
     mem-lower-requires
     mem-upper-requires

@@ -1,16 +1,16 @@
--- `decision::gather::item` meets its contract: both branches are those of `itemNo`.
+-- `items::item` meets its contract: both branches are those of `itemNo`.
 -- Assumes nothing.
 use borrow.Author.Tests.{lt-ltb, le-ltb}
 use Rattle.submission.specs.Format.{moduleNo}
-use Rattle.decision.specs.Gather.{itemNo}
+use Rattle.items.specs.LoadItems.{itemNo}
 use mathlib.Core.Bool.{Bool, false}
 use mathlib.Core.Path.{_≡_}
 use Prim.Native.Nat.{ℕ, _≤_, _<_}
 use Rattle.address.specs.Address.{boundaryOf}
 use Rattle.submission.specs.declared.Layout.{Layout}
 use borrow.Author.Needs.{needs}
-use Rattle.decision.proofs.gather.item.Statement.{statement}
-use Rattle.decision.proofs.gather.item.Tie as tie
+use Rattle.items.proofs.item.Statement.{statement}
+use Rattle.items.proofs.item.Tie as tie
 
 module _ (l : Layout) (pages : Bool) (size i b : ℕ) where
   module-item : i < l .count → b ≡ boundaryOf pages → record { length = moduleNo l i .«data» .len; boundary = b } ≡ itemNo l pages size i

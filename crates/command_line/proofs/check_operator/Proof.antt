@@ -1,13 +1,13 @@
--- `submission::check_operator` meets its contract: its two tests are those of the one check.
+-- `command_line::check_operator` meets its contract: its two tests are those of the one check.
 -- Assumes nothing.
 use mathlib.Core.Path.{_≡_, sym, _∙_}
 use mathlib.Core.Bool.{true, false}
 use borrow.Author.Needs.{needs}
 use Rattle.laws.specs.CheckLaws.{chain}
 use Rattle.submission.specs.Scan.{hasZero}
-use Rattle.submission.specs.CommandLine.{operatorChecks}
-use Rattle.submission.proofs.check_operator.Statement.{statement}
-use Rattle.submission.proofs.check_operator.Tie as tie
+use Rattle.command_line.specs.CommandLine.{operatorChecks}
+use Rattle.command_line.proofs.check_operator.Statement.{statement}
+use Rattle.command_line.proofs.check_operator.Tie as tie
 
 returns : tie.Need-returns
 unfolding operatorChecks

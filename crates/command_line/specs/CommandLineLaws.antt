@@ -17,13 +17,13 @@ use Rattle.answer.specs.Order.{refuses}
 use Rattle.laws.specs.TestLaws.{true-or-false, or-none-left, or-none-right, and-left, lt-or-le}
 use Rattle.laws.specs.Checks.{passes}
 use Rattle.laws.specs.CheckLaws.{passes-append}
 use Rattle.submission.specs.Scan.{hasZero}
 use Rattle.submission.specs.ScanLaws.{no-zero}
 use Rattle.submission.specs.Format.{lineOf, bytesOf}
 use Rattle.submission.specs.FormatLaws.{length-bytesOf}
 use Rattle.submission.specs.Rules.{lineLimit, submissionChecks}
 use Rattle.submission.specs.RuleLaws.{Accepted, accepted, line-inside}
-use Rattle.submission.specs.CommandLine.{operatorChecks, lineInForce, commandLine}
+use Rattle.command_line.specs.CommandLine.{operatorChecks, lineInForce, commandLine}
 
 module _ (line : List ℕ) where
   pub operator-refuses : refuses (operatorChecks line) ≡ true

@@ -1,4 +1,4 @@
--- `submission::command_line` meets its contract: a refusal empties the line, and then the operator's goes first.
+-- `command_line::in_force` meets its contract: a refusal empties the line, and then the operator's goes first.
 -- Assumes nothing.
 use mathlib.Core.Path.{_≡_, ap, sym, _∙_}
 use mathlib.Core.Bool.{Bool, true}
@@ -12,16 +12,16 @@ use Rattle.answer.specs.Order.{passes-is}
 use Rattle.answer.specs.declared.Answer.{Answer}
 use Rattle.answer.specs.declared.Answer.the-variants.{Load}
 use Rattle.laws.specs.Checks.{firstOf, passes}
 use Rattle.submission.specs.Format.{lineOf, layoutOf, bytesOf}
 use Rattle.submission.specs.FormatLaws.{layout-line}
 use Rattle.submission.specs.Rules.{submissionChecks, parsed}
 use Rattle.submission.specs.RuleLaws.{submission-refuses, parsed-layout}
-use Rattle.submission.specs.CommandLine.{operatorChecks}
-use Rattle.submission.specs.CommandLineLaws.{operator-refuses, line-refused-submission, line-refused-operator, line-of-operator, line-of-submission}
+use Rattle.command_line.specs.CommandLine.{operatorChecks}
+use Rattle.command_line.specs.CommandLineLaws.{operator-refuses, line-refused-submission, line-refused-operator, line-of-operator, line-of-submission}
 use Rattle.submission.specs.declared.Layout.{Layout}
 use Rattle.submission.specs.declared.Parsed.{Parsed}
-use Rattle.submission.proofs.command_line.Statement.{statement}
-use Rattle.submission.proofs.command_line.Tie as tie
+use Rattle.command_line.proofs.in_force.Statement.{statement}
+use Rattle.command_line.proofs.in_force.Tie as tie
 
 -- whether an answer is a load tells whether no check applies
 of-submission : (s : List ℕ) (r : Parsed) (b : Bool) → r ≡ parsed s → b ≡ isLoad (r .answer) → passes (submissionChecks s) ≡ b
@@ -100,8 +100,8 @@ returns-4 c =
     line-is (a .submission .now) (at-parse .parse .result) (at-parse .parse .ensures) (h .0) (c .bytes-of .result .now) (c .bytes-of .ensures)
     ∙ sym (line-of-submission (a .operator .now) (a .submission .now) (h .0) (h .1) (omega arith))
 
-pub command-line-spec : {M : Type 1} → statement M
-command-line-spec =
+pub in-force-spec : {M : Type 1} → statement M
+in-force-spec =
     tie.close
     (tie.spec
     parse-requires

@@ -1,4 +1,4 @@
-// What is placed, and beside what; and the spans of the modules among those placed.
+// The items of a load, the kernel's extents that they are placed beside, and the spans of the modules among those placed.
 use address::PhysAddr;
 use address::Span;
 use image::Kernel;
@@ -11,7 +11,7 @@ ghost use Prim.Native.Nat.{_+_, _≤_};
 ghost use Rattle.submission.specs.Format.{moduleLimit};
 ghost use Rattle.placement.specs.Free.{maxSpans};
 ghost use Rattle.image.specs.Judged.{segmentLimit};
-ghost use Rattle.decision.specs.Gather.{extentNo, extentsOf, itemNo, itemsOf, moduleSpans};
+ghost use Rattle.items.specs.LoadItems.{extentNo, extentsOf, itemNo, itemsOf, moduleSpans};
 
 // The kernel's extents, as spans taken.
 pub fn extents(kernel: Kernel) -> Spans

@@ -1,4 +1,4 @@
--- `decision::gather::extents` meets its contract: the loop fills a table.
+-- `items::extents` meets its contract: the loop fills a table.
 -- Assumes nothing.
 use mathlib.Core.Path.{_≡_, ap, _∙_}
 use Prim.Native.Nat.{_-_, _≤_}
@@ -8,10 +8,10 @@ use Rattle.laws.specs.Table.{table}
 use Rattle.laws.specs.TableLaws.{table-none, table-more}
 use Rattle.placement.specs.Free.{maxSpans}
 use Rattle.address.specs.Address.{noSpan}
-use Rattle.decision.specs.Gather.{extentNo, extentsOf}
+use Rattle.items.specs.LoadItems.{extentNo, extentsOf}
 use borrow.Author.Needs.{needs}
-use Rattle.decision.proofs.gather.extents.Statement.{statement}
-use Rattle.decision.proofs.gather.extents.Tie as tie
+use Rattle.items.proofs.extents.Statement.{statement}
+use Rattle.items.proofs.extents.Tie as tie
 
 abbrev Inv-loop : tie.InvT-loop
 Inv-loop kernel list₀ i₀ list i = (i ≤ kernel .count) × (list ≡ table (extentNo kernel) i maxSpans noSpan)

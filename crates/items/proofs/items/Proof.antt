@@ -1,4 +1,4 @@
--- `decision::gather::items` meets its contract: the loop fills a table.
+-- `items::items` meets its contract: the loop fills a table.
 -- Assumes nothing.
 use mathlib.Core.Path.{_≡_}
 use Prim.Native.Nat.{_+_, _-_, _≤_}
@@ -6,10 +6,10 @@ use native.Mathlib.Omega.{arith}
 use Rattle.laws.specs.Table.{table}
 use Rattle.laws.specs.TableLaws.{table-none, table-more}
 use Rattle.placement.specs.Order.{maxItems, noItem}
-use Rattle.decision.specs.Gather.{itemNo, itemsOf}
+use Rattle.items.specs.LoadItems.{itemNo, itemsOf}
 use borrow.Author.Needs.{needs}
-use Rattle.decision.proofs.gather.items.Statement.{statement}
-use Rattle.decision.proofs.gather.items.Tie as tie
+use Rattle.items.proofs.items.Statement.{statement}
+use Rattle.items.proofs.items.Tie as tie
 
 abbrev Inv-loop : tie.InvT-loop
 Inv-loop layout pages size list₀ i₀ list i = (i ≤ layout .count + 1) × (list ≡ table (itemNo layout pages size) i maxItems noItem)

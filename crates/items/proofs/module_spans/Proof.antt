@@ -1,4 +1,4 @@
--- `decision::gather::module_spans` meets its contract: the loop fills a table.
+-- `items::module_spans` meets its contract: the loop fills a table.
 -- Assumes nothing.
 use mathlib.Core.Path.{_≡_, ap, _∙_}
 use Prim.Native.Nat.{_+_, _-_, _≤_}
@@ -9,10 +9,10 @@ use Rattle.laws.specs.TableLaws.{table-none, table-more}
 use Rattle.submission.specs.Format.{moduleLimit}
 use Rattle.placement.specs.Free.{spanAt}
 use Rattle.address.specs.Address.{noSpan}
-use Rattle.decision.specs.Gather.{moduleSpans}
+use Rattle.items.specs.LoadItems.{moduleSpans}
 use borrow.Author.Needs.{needs}
-use Rattle.decision.proofs.gather.module_spans.Statement.{statement}
-use Rattle.decision.proofs.gather.module_spans.Tie as tie
+use Rattle.items.proofs.module_spans.Statement.{statement}
+use Rattle.items.proofs.module_spans.Tie as tie
 
 abbrev Inv-loop : tie.InvT-loop
 Inv-loop from count spans list₀ i₀ list i = (i ≤ count) × (list ≡ table (λ j. spanAt spans (from + j)) i moduleLimit noSpan)

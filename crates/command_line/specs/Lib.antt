@@ -1,0 +1,3 @@
+-- The definitions that the contracts of `command_line` cite, and their laws.
+pub mod CommandLine
+pub mod CommandLineLaws

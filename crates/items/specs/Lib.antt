@@ -1,0 +1,3 @@
+-- The definitions that the contracts of `items` cite, and their laws.
+pub mod LoadItems
+pub mod LoadItemsLaws
