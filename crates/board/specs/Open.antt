@@ -5,7 +5,8 @@
 use mathlib.Core.Bool.{Bool, _&&_}
 use Prim.Native.Nat.{ℕ, _≤_}
 use Rattle.address.specs.Address.{inside, top}
-use Rattle.memory_map.specs.Usable.{maxPairs, usableAt}
+use Rattle.memory_map.specs.Pairs.{maxPairs}
+use Rattle.usable.specs.Usable.{usableAt}
 use Rattle.board.specs.declared.Board.{Board}
 
 -- an address is open if it is usable and inside the window

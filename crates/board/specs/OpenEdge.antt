@@ -3,7 +3,7 @@
 -- Assumes nothing.
 use Prim.Native.Nat.{ℕ}
 use Rattle.edge.specs.Edge.{nearest}
-use Rattle.memory_map.specs.MapEdge.{mapEdge}
+use Rattle.usable.specs.MapEdge.{mapEdge}
 use Rattle.board.specs.declared.Board.{Board}
 
 unfoldable pub openEdge : Board → ℕ → ℕ

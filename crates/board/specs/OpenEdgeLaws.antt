@@ -8,8 +8,8 @@ use borrow.Author.Tests.{lt-ltb}
 use Rattle.address.specs.Address.{inside}
 use Rattle.edge.specs.Edge.{nearest}
 use Rattle.edge.specs.EdgeLaws.{Edge, nearest-is}
-use Rattle.memory_map.specs.Usable.{limit}
-use Rattle.memory_map.specs.MapEdgeLaws.{map-edge-is}
+use Rattle.usable.specs.Usable.{limit}
+use Rattle.usable.specs.MapEdgeLaws.{map-edge-is}
 use Rattle.board.specs.declared.Board.{Board}
 use Rattle.board.specs.Open.{openAt}
 use Rattle.board.specs.OpenEdge.{openEdge}

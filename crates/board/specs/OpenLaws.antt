@@ -14,8 +14,8 @@ use Rattle.laws.specs.Tests.{allFrom}
 use Rattle.laws.specs.TestLaws.{and-left, and-right, all-intro, all-elim}
 use Rattle.address.specs.Address.{inside}
 use Rattle.address.specs.InsideLaws.{inside-is}
-use Rattle.memory_map.specs.Usable.{limit, usableAt}
-use Rattle.memory_map.specs.UsableLaws.{Usable, usable-is}
+use Rattle.usable.specs.Usable.{limit, usableAt}
+use Rattle.usable.specs.UsableLaws.{Usable, usable-is}
 use Rattle.board.specs.declared.Board.{Board}
 use Rattle.board.specs.Open.{openAt}
 

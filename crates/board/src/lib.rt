@@ -5,7 +5,7 @@ use memory_map::MemMap;
 ghost use mathlib.Core.Path.{_≡_};
 ghost use Prim.Native.Nat.{_-_, _≤_};
 ghost use Rattle.laws.specs.Tests.{allFrom};
-ghost use Rattle.memory_map.specs.Usable.{maxPairs};
+ghost use Rattle.memory_map.specs.Pairs.{maxPairs};
 ghost use Rattle.board.specs.Open.{openAt, Checked};
 ghost use Rattle.board.specs.OpenEdge.{openEdge};
 
@@ -25,7 +25,7 @@ pub fn open_at(board: Board, a: PhysAddr) -> bool
     if !board.window.contains(a) {
         return false;
     }
-    memory_map::usable::usable_at(board.map, a)
+    usable::usable_at(board.map, a)
 }
 
 // The nearest edge of the window or a pair past x, at most the window's end: up to it all addresses are open, or none is.
@@ -34,7 +34,7 @@ pub fn open_edge(board: Board, x: PhysAddr) -> PhysAddr
     ensures { λ r. ⌜ r .0 ≡ openEdge board (x .0) ⌝ }
 {
     let e = edge::nearer(x, board.window.end, board.window.start);
-    memory_map::usable::map_edge(board.map, x, e)
+    usable::map_edge(board.map, x, e)
 }
 
 // Whether every address of the span is open.

@@ -6,7 +6,7 @@ use mathlib.Core.Path.{_≡_, refl, ap, _∙_}
 use mathlib.Core.List.{_++_}
 use Prim.Native.Nat.{_+_, _≤_}
 use Rattle.address.specs.Address.{page}
-use Rattle.memory_map.specs.Usable.{limit}
+use Rattle.usable.specs.Usable.{limit}
 use Rattle.placement.specs.declared.Placed.{Placed}
 use Rattle.decision.specs.declared.Decision.{Decision}
 use Rattle.decision.specs.Lent.{Lent, layoutIn, kernelIn, boardIn, blockIn}

@@ -28,8 +28,8 @@ use Rattle.image.specs.Header.{magic, words, isHeader, headerFrom, header}
 use Rattle.image.specs.Load.{fieldsAt, loadLength}
 use Rattle.image.specs.Judged.{headerChecks, loadChecks, imageChecks, kernelAt, kernelOf, segmentNo}
 use Rattle.memory_map.specs.Pairs.{nextAt, pairAt, begins, pairCount, small, past, badMap, mapChecks, pairOf, firstPairs}
-use Rattle.memory_map.specs.Usable.{limit, covers, usableBy, barredBy, usableAt}
-use Rattle.memory_map.specs.MapEdge.{mapEdge}
+use Rattle.usable.specs.Usable.{limit, covers, usableBy, barredBy, usableAt}
+use Rattle.usable.specs.MapEdge.{mapEdge}
 use Rattle.board.specs.Open.{openAt}
 use Rattle.board.specs.OpenEdge.{openEdge}
 use Rattle.board.specs.Window.{windowChecks}

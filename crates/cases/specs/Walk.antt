@@ -11,7 +11,7 @@ use borrow.Author.Tests.{lt-ltb, le-ltb, le-leb, lt-leb}
 use lib.Dec.{leb, ltb}
 use Rattle.laws.specs.TestLaws.{true-or-false, lt-or-le}
 use Rattle.address.specs.Address.{floor, page, roundUp}
-use Rattle.memory_map.specs.Usable.{limit}
+use Rattle.usable.specs.Usable.{limit}
 use Rattle.board.specs.declared.Board.{Board}
 use Rattle.board.specs.Open.{openAt}
 use Rattle.placement.specs.declared.Spans.{Spans}

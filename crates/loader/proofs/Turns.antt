@@ -17,7 +17,7 @@ use Rattle.submission.specs.Format.{bytesOf, moduleNo}
 use Rattle.command_line.specs.CommandLine.{commandLine}
 use Rattle.memory_map.specs.declared.parse.Parsed.{Parsed as ParsedMap}
 use Rattle.memory_map.specs.Pairs.{parsed as parsedMap}
-use Rattle.memory_map.specs.Sizes.{memLower, memUpper}
+use Rattle.usable.specs.Sizes.{memLower, memUpper}
 use Rattle.information.specs.Information.{contentsOf, blockOf}
 use Rattle.information.specs.Writing.{Room}
 use Rattle.image.specs.declared.Kernel.{Kernel}

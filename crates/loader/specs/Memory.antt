@@ -21,7 +21,7 @@ use Rattle.submission.specs.Format.{bytesOf, moduleNo}
 use Rattle.image.specs.declared.Kernel.{Kernel}
 use Rattle.command_line.specs.CommandLine.{commandLine}
 use Rattle.memory_map.specs.Pairs.{parsed}
-use Rattle.memory_map.specs.Sizes.{memLower, memUpper}
+use Rattle.usable.specs.Sizes.{memLower, memUpper}
 use Rattle.information.specs.Information.{Contents, contentsOf, blockOf}
 use Rattle.image.specs.Judged.{segmentNo}
 use Rattle.decision.specs.declared.Plan.{Plan}

@@ -70,8 +70,8 @@ fn write_information<'a>(
     let line = command_line::in_force(operator, submission);
     let parsed = memory_map::parse::parse(map);
     let pairs = parsed.map;
-    let lower = memory_map::sizes::mem_lower(pairs);
-    let upper = memory_map::sizes::mem_upper(pairs);
+    let lower = usable::sizes::mem_lower(pairs);
+    let upper = usable::sizes::mem_upper(pairs);
     let at = start.offset_from(base);
     information::write::write_block(
         window,

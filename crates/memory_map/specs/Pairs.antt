@@ -1,5 +1,6 @@
 -- The pairs of a lent memory map, and the check that it passes.     rules: MAP, ANSWERS (5)
---     maxBytes, minSize               the limits of a map, beside that of its pairs
+--     maxPairs, maxBytes, minSize     the limits of a map
+--     noPair, pairNo                  a pair of zeros, and the pair of an index
 --     sizeField, baseAt, lengthAt, kindAt    where the fields of a pair stand
 --     pairAt, pairCount               where each pair begins, and how many there are
 --     pairOf, firstPairs, mapOf       the pairs read
@@ -10,7 +11,7 @@ use mathlib.Core.Bool.{Bool, cond, _||_}
 use mathlib.Core.List.{List, [], _∷_}
 use Prim.Native.Nat.{ℕ, zero, suc, _+_}
 use lib.Dec.{ltb, eqb}
-use lib.ListN.{length, replicate}
+use lib.ListN.{length, getD, replicate}
 use Rattle.number.specs.Number.{numberAt}
 use Rattle.laws.specs.Tests.{any, run}
 use Rattle.laws.specs.Table.{table}
@@ -20,9 +21,11 @@ use Rattle.answer.specs.declared.Answer.the-variants.{Load, BadMemoryMap}
 use Rattle.memory_map.specs.declared.Pair.{Pair}
 use Rattle.memory_map.specs.declared.MemMap.{MemMap}
 use Rattle.memory_map.specs.declared.parse.Parsed.{Parsed}
-use Rattle.memory_map.specs.Usable.{maxPairs, noPair}
 
--- the most bytes, and the least size
+-- the most pairs, the most bytes, and the least size
+abbrev pub maxPairs : ℕ
+maxPairs = 32
+
 abbrev pub maxBytes : ℕ
 maxBytes = 4096
 
@@ -41,6 +44,13 @@ lengthAt = 12
 
 abbrev pub kindAt : ℕ
 kindAt = 20
+
+abbrev pub noPair : Pair
+noPair = record { base = 0; length = 0; kind = 0 }
+
+-- the pair of the index i
+abbrev pub pairNo : MemMap → ℕ → Pair
+pairNo m i = getD (m .pairs) i noPair
 
 -- the size of the pair at the offset `at`
 abbrev pub sizeAt : List ℕ → ℕ → ℕ

@@ -31,7 +31,7 @@ use Rattle.answer.specs.Order.{refuses, check-passed}
 use Rattle.number.specs.NumberLaws.{Bytes, bytes-drop, number-bound}
 use Rattle.memory_map.specs.declared.Pair.{Pair}
 use Rattle.memory_map.specs.Pairs.{maxBytes, minSize, baseAt, lengthAt, kindAt, sizeAt, nextAt, pairAt, begins, pairCount, small, past, badMap, mapChecks, pairOf, firstPairs, mapOf, noMap, parsed}
-use Rattle.memory_map.specs.Usable.{maxPairs, noPair, pairNo}
+use Rattle.memory_map.specs.Pairs.{maxPairs, noPair, pairNo}
 
 -- the first n pairs keep their rules: none is too small, and none runs past the end
 pub record Whole (m : List ℕ) (n : ℕ) : Type 0 where

@@ -1,7 +1,5 @@
 // A memory map in the standard's pair form.
 pub mod parse;
-pub mod sizes;
-pub mod usable;
 
 // At most so many pairs.
 pub const PAIRS: usize = 32;

@@ -7,7 +7,7 @@ use Prim.Native.Nat.{ℕ, _-_}
 use Rattle.laws.specs.Tests.{allFrom}
 use Rattle.laws.specs.First.{first, Found, none, at}
 use Rattle.address.specs.Address.{floor, isMultiple}
-use Rattle.memory_map.specs.Usable.{limit}
+use Rattle.usable.specs.Usable.{limit}
 use Rattle.placement.specs.declared.Spans.{Spans}
 use Rattle.placement.specs.declared.Item.{Item}
 use Rattle.placement.specs.declared.Place.{Place}

@@ -17,7 +17,7 @@ use Rattle.laws.specs.First.{Found, none, at, Lowest}
 use Rattle.laws.specs.FirstLaws.{first-at, first-none, at-lowest, none-lowest}
 use Rattle.address.specs.declared.PhysAddr.{PhysAddr}
 use Rattle.address.specs.Address.{floor, isMultiple}
-use Rattle.memory_map.specs.Usable.{limit}
+use Rattle.usable.specs.Usable.{limit}
 use Rattle.placement.specs.declared.Spans.{Spans}
 use Rattle.placement.specs.declared.Item.{Item}
 use Rattle.placement.specs.declared.Place.the-variants.{At, NoRoom}

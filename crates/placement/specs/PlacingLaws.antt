@@ -11,7 +11,7 @@ use native.Mathlib.Omega.{arith}
 use lib.ListN.{length}
 use Rattle.address.specs.declared.PhysAddr.{PhysAddr}
 use Rattle.address.specs.declared.Span.{Span}
-use Rattle.memory_map.specs.Usable.{limit}
+use Rattle.usable.specs.Usable.{limit}
 use Rattle.board.specs.declared.Board.{Board}
 use Rattle.board.specs.Open.{openAt}
 use Rattle.board.specs.OpenLaws.{Open, open-is, open-below}

@@ -19,7 +19,7 @@ use Rattle.address.specs.Address.{floor, page, isMultiple, roundUp}
 use Rattle.address.specs.RoundLaws.{rounded}
 use Rattle.edge.specs.EdgeLaws.{Edge}
 use Rattle.edge.specs.Passed.{Passed, passed-start, passed-on}
-use Rattle.memory_map.specs.Usable.{limit}
+use Rattle.usable.specs.Usable.{limit}
 use Rattle.placement.specs.declared.Item.{Item}
 use Rattle.placement.specs.Lowest.{fits, lowest}
 use Rattle.placement.specs.Ready.{Bounded}

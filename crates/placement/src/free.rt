@@ -4,7 +4,7 @@ use address::PhysAddr;
 use board::Board;
 ghost use mathlib.Core.Path.{_≡_};
 ghost use Prim.Native.Nat.{_≤_};
-ghost use Rattle.memory_map.specs.Usable.{maxPairs};
+ghost use Rattle.memory_map.specs.Pairs.{maxPairs};
 ghost use Rattle.board.specs.Open.{openAt};
 ghost use Rattle.placement.specs.Free.{maxSpans, takenAt, freeAt};
 ghost use Rattle.placement.specs.FreeEdge.{takenEdge, freeEdge};

@@ -19,8 +19,8 @@ use Rattle.address.specs.declared.Span.{Span}
 use Rattle.answer.specs.Answer.{isLoad}
 use Rattle.image.specs.JudgedLaws.{accepted}
 use Rattle.memory_map.specs.declared.MemMap.{MemMap}
-use Rattle.memory_map.specs.Usable.{limit, usableAt}
-use Rattle.memory_map.specs.Sizes.{memLower, memUpper}
+use Rattle.usable.specs.Usable.{limit, usableAt}
+use Rattle.usable.specs.Sizes.{memLower, memUpper}
 use Rattle.memory_map.specs.Pairs.{mapOf, parsed}
 use Rattle.memory_map.specs.PairsLaws.{parsed-good}
 use Rattle.information.specs.Information.{lowerAt, upperAt, lineAt, countAt, modulesAt, mapLengthAt, mapAt, nameAt, flagsAt, structureSize, entrySize, loaderName, textsSize, addressOf, mapOffset, nameOffset, lineOffset, stringsOffset, structureAt, structureOf, stringLengths, blockOf, blockLength}

@@ -28,7 +28,7 @@ use Rattle.submission.specs.Rules.{lineLimit, isSubmission, rulesHold, submissi
 use Rattle.submission.specs.RuleLaws.{Accepted}
 use Rattle.memory_map.specs.Pairs.{badMap, mapOf}
 use Rattle.memory_map.specs.PairsLaws.{GoodMap}
-use Rattle.memory_map.specs.Sizes.{memLower, memUpper}
+use Rattle.usable.specs.Sizes.{memLower, memUpper}
 use Rattle.image.specs.Header.{header}
 use Rattle.image.specs.HeaderLaws.{HeaderAt}
 use Rattle.image.specs.Load.{loadEnd}

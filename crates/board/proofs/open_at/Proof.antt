@@ -6,7 +6,7 @@ use Prim.Native.Nat.{ℕ}
 use borrow.Author.Tests.{not-true, not-false}
 use borrow.Author.Needs.{needs}
 use Rattle.address.specs.Address.{inside}
-use Rattle.memory_map.specs.Usable.{usableAt}
+use Rattle.usable.specs.Usable.{usableAt}
 use Rattle.board.specs.declared.Board.{Board}
 use Rattle.board.specs.Open.{openAt}
 use Rattle.board.proofs.open_at.Statement.{statement}

@@ -12,7 +12,7 @@ use Rattle.laws.specs.TableLaws.{table-more}
 use Rattle.answer.specs.declared.Answer.the-variants.{Load}
 use Rattle.memory_map.specs.declared.Pair.{Pair}
 use Rattle.memory_map.specs.declared.MemMap.{MemMap}
-use Rattle.memory_map.specs.Usable.{maxPairs, noPair}
+use Rattle.memory_map.specs.Pairs.{maxPairs, noPair}
 use Rattle.memory_map.specs.Pairs.{maxBytes, minSize, sizeField, sizeAt, nextAt, pairAt, pairCount, pairOf, small, past, badMap, firstPairs, noMap, parsed}
 use Rattle.memory_map.specs.PairsLaws.{Whole, whole-zero, whole-more, whole-all, unbroken, map-good, empty-bad, long-bad, many-bad, broken-bad, parsed-bad, parsed-good}
 use borrow.Author.Needs.{needs}

@@ -1,0 +1,6 @@
+-- The definitions that the contracts of `usable` cite, and their laws.
+pub mod Usable
+pub mod UsableLaws
+pub mod MapEdge
+pub mod MapEdgeLaws
+pub mod Sizes

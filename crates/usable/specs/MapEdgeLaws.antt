@@ -1,0 +1,46 @@
+-- Up to the nearest edge of a map all addresses are usable, or none is.
+--     map-edge-is, map-edge-at    the edge of the map is an edge of the usable addresses, by name and as a call hands it over
+-- Assumes nothing.
+use mathlib.Core.Path.{_≡_, ap}
+use mathlib.Core.Bool.{Bool, true, not, _&&_}
+use Prim.Native.Nat.{ℕ, _+_, _≤_, _<_}
+use native.Mathlib.Omega.{arith}
+use borrow.Author.Tests.{lt-ltb}
+use lib.Dec.{ltb, eqb}
+use Rattle.laws.specs.Tests.{any}
+use Rattle.laws.specs.TestLaws.{any-same}
+use Rattle.edge.specs.EdgeLaws.{Edge, Edges, edges-are}
+use Rattle.memory_map.specs.declared.MemMap.{MemMap}
+use Rattle.memory_map.specs.Pairs.{pairNo}
+use Rattle.usable.specs.Usable.{ram, limit, covers, usableBy, barredBy, usableAt}
+use Rattle.usable.specs.MapEdge.{mapEdge}
+
+module _ (m : MemMap) (x y k : ℕ) (h : (i : ℕ) → i < k → covers (pairNo m i) y ≡ covers (pairNo m i) x) where
+  same-usable : any (usableBy m y) k ≡ any (usableBy m x) k
+  unfolding usableBy
+  same-usable = any-same _ _ k (λ i l. ap (λ (b : Bool). eqb (pairNo m i .kind) ram && b) (h i l))
+
+  same-barred : any (barredBy m y) k ≡ any (barredBy m x) k
+  unfolding barredBy
+  same-barred = any-same _ _ k (λ i l. ap (λ (b : Bool). not (eqb (pairNo m i .kind) ram) && b) (h i l))
+
+module _ (m : MemMap) (x e : ℕ) (l : x < e) where
+  covered-same : Edges (λ i. covers (pairNo m i)) (m .count) x e (mapEdge m x e)
+  unfolding covers mapEdge
+  covered-same = edges-are (λ i. pairNo m i .base) (λ i. pairNo m i .base + pairNo m i .length) x e l (m .count)
+
+  pub map-edge-is : e ≤ limit → Edge (usableAt m) x e (mapEdge m x e)
+  unfolding usableAt
+  map-edge-is top =
+      let h = covered-same in
+      record {
+        past = h .past;
+        near = h .near;
+        same = λ y u v.
+            let ly : ltb y limit ≡ true = lt-ltb y limit (omega arith) in
+            let lx : ltb x limit ≡ true = lt-ltb x limit (omega arith) in
+            rw (ly, lx, same-usable m x y (m .count) (λ i n. h .same i n y u v), same-barred m x y (m .count) (λ i n. h .same i n y u v));
+      }
+
+  pub map-edge-at : (r : ℕ) → r ≡ mapEdge m x e → e ≤ limit → Edge (usableAt m) x e r
+  map-edge-at r q top = rw q (map-edge-is top)

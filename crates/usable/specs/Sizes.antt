@@ -1,0 +1,21 @@
+-- The sizes of lower and upper memory.                                                  rule: SIZES
+--     memLower    the number of consecutive usable addresses from 0 in KiB, at most 640
+--     memUpper    the same from 0x100000, with no cap but 2^32
+-- Assumes nothing.
+use Prim.Native.Nat.{ℕ, _-_, _/_, min}
+use Rattle.laws.specs.Tests.{run}
+use Rattle.address.specs.Address.{floor}
+use Rattle.memory_map.specs.declared.MemMap.{MemMap}
+use Rattle.usable.specs.Usable.{limit, usableAt}
+
+abbrev pub kib : ℕ
+kib = 1024
+
+abbrev pub lowerMost : ℕ
+lowerMost = 640
+
+unfoldable pub memLower : MemMap → ℕ
+memLower m = min (run (usableAt m) 0 limit / kib) lowerMost
+
+unfoldable pub memUpper : MemMap → ℕ
+memUpper m = run (usableAt m) floor (limit - floor) / kib

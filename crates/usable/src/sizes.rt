@@ -1,0 +1,54 @@
+// The sizes of lower and upper memory.
+use crate::LIMIT;
+use crate::map_edge;
+use crate::usable_at;
+use address::PhysAddr;
+use memory_map::MemMap;
+ghost use mathlib.Core.Path.{_≡_};
+ghost use Prim.Native.Nat.{_-_, _≤_};
+ghost use Rattle.laws.specs.Tests.{run};
+ghost use Rattle.memory_map.specs.Pairs.{maxPairs};
+ghost use Rattle.usable.specs.Usable.{limit, usableAt};
+ghost use Rattle.usable.specs.Sizes.{memLower, memUpper};
+
+// Sizes are given in units of so many bytes.
+const KIB: u64 = 1024;
+
+// Lower memory is at most so many units.
+const LOWER_MOST: u64 = 640;
+
+// The number of consecutive usable addresses from start on.
+fn usable_run(map: MemMap, start: PhysAddr) -> u64
+    requires { ⌜ map .count ≤ maxPairs ⌝ }
+    ensures { λ r. ⌜ r ≡ run (usableAt map) (start .0) (limit - start .0) ⌝ }
+{
+    let mut x = start;
+    while x.0 < LIMIT {
+        if !usable_at(map, x) {
+            return x.0 - start.0;
+        }
+        x = map_edge(map, x, PhysAddr(LIMIT));
+    }
+    x.0 - start.0
+}
+
+// The size of lower memory in KiB.
+pub fn mem_lower(map: MemMap) -> u32
+    requires { ⌜ map .count ≤ maxPairs ⌝ }
+    ensures { λ r. ⌜ r ≡ memLower map ⌝ }
+{
+    let size = usable_run(map, PhysAddr(0)) / KIB;
+    if size < LOWER_MOST {
+        size as u32
+    } else {
+        LOWER_MOST as u32
+    }
+}
+
+// The size of upper memory in KiB.
+pub fn mem_upper(map: MemMap) -> u32
+    requires { ⌜ map .count ≤ maxPairs ⌝ }
+    ensures { λ r. ⌜ r ≡ memUpper map ⌝ }
+{
+    (usable_run(map, PhysAddr(PhysAddr::FLOOR)) / KIB) as u32
+}
