@@ -24,7 +24,7 @@ use Rattle.submission.specs.Scan.{hasZero, sameBytes}
 use Rattle.submission.specs.Format.{dataStart, layoutOf}
 use Rattle.submission.specs.Rules.{isSubmission, inLimits, stringHolds, rulesHold, submissionChecks}
 use Rattle.command_line.specs.CommandLine.{operatorChecks, lineInForce, commandLine}
-use Rattle.image.specs.Header.{magic, words, isHeader, headerFrom, header}
+use Rattle.header.specs.Header.{magic, words, isHeader, headerFrom, header}
 use Rattle.image.specs.Load.{fieldsAt, loadLength}
 use Rattle.image.specs.Judged.{headerChecks, loadChecks, imageChecks, kernelAt, kernelOf, segmentNo}
 use Rattle.memory_map.specs.Pairs.{nextAt, pairAt, begins, pairCount, small, past, badMap, mapChecks, pairOf, firstPairs}

@@ -16,10 +16,10 @@ use Rattle.answer.specs.Answer.{isLoad}
 use Rattle.answer.specs.declared.Answer.{Answer}
 use Rattle.answer.specs.declared.Answer.the-variants.{Load, NoHeader, UnknownRequest, NoAddressFields, HeaderCutOff, LoadBeforeImage}
 use Rattle.address.specs.declared.ImageOffset.{ImageOffset}
-use Rattle.image.specs.declared.header.Search.{Search}
-use Rattle.image.specs.declared.header.Search.the-variants.{At, Nothing}
+use Rattle.header.specs.declared.Search.{Search}
+use Rattle.header.specs.declared.Search.the-variants.{At, Nothing}
 use Rattle.image.specs.declared.load.Fields.{Fields}
-use Rattle.image.specs.Header.{header}
+use Rattle.header.specs.Header.{header}
 use Rattle.image.specs.Load.{flagsAt, fieldsAt, onPages, loadOffset, loadLength}
 use Rattle.image.specs.Narrow.{Narrow}
 use Rattle.image.specs.Judged.{unknownRequest, noAddresses, cutOff, beforeImage, headerChecks, loadChecks, imageChecks, kernelAt, kernelOf, refused, withKernel, judged}

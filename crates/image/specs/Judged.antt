@@ -20,13 +20,13 @@ use Rattle.laws.specs.Checks.{Check, _gives_, firstOf}
 use Rattle.answer.specs.Answer.{isLoad}
 use Rattle.answer.specs.declared.Answer.{Answer}
 use Rattle.answer.specs.declared.Answer.the-variants.{Load, NoHeader, UnknownRequest, NoAddressFields, HeaderCutOff, LoadBeforeImage, NothingToLoad, LoadPastImage, BssBelowLoadEnd, EntryOutsideLoad}
-use Rattle.image.specs.declared.header.Search.{Search}
-use Rattle.image.specs.declared.header.Search.the-variants.{At, Nothing}
+use Rattle.header.specs.declared.Search.{Search}
+use Rattle.header.specs.declared.Search.the-variants.{At, Nothing}
 use Rattle.image.specs.declared.load.Fields.{Fields}
 use Rattle.image.specs.declared.Segment.{Segment}
 use Rattle.image.specs.declared.Kernel.{Kernel}
 use Rattle.image.specs.declared.Judged.{Judged}
-use Rattle.image.specs.Header.{searched, header}
+use Rattle.header.specs.Header.{searched, header}
 use Rattle.image.specs.Load.{flagsAt, fieldsAt, onPages, wholeLength, loadOffset, loadLength, loadEnd, extentEnd}
 
 -- 6: no header

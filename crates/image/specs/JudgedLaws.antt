@@ -23,12 +23,12 @@ use Rattle.number.specs.NumberLaws.{Bytes, bytes-drop, number-bound}
 use Rattle.laws.specs.TableLaws.{replicate-at}
 use Rattle.answer.specs.Order.{refuses, check-passed}
 use Rattle.answer.specs.declared.Answer.the-variants.{Load, NoHeader, UnknownRequest, NoAddressFields, HeaderCutOff, LoadBeforeImage, NothingToLoad, LoadPastImage, BssBelowLoadEnd, EntryOutsideLoad}
-use Rattle.image.specs.declared.header.Search.{Search}
-use Rattle.image.specs.declared.header.Search.the-variants.{At, Nothing}
+use Rattle.header.specs.declared.Search.{Search}
+use Rattle.header.specs.declared.Search.the-variants.{At, Nothing}
 use Rattle.image.specs.declared.load.Fields.{Fields}
 use Rattle.image.specs.declared.Segment.{Segment}
 use Rattle.image.specs.declared.Kernel.{Kernel}
-use Rattle.image.specs.Header.{searched, header}
+use Rattle.header.specs.Header.{searched, header}
 use Rattle.image.specs.Load.{flagsAt, fieldsAt, wholeLength, onPages, loadLength, loadEnd}
 use Rattle.image.specs.Judged.{noHeader, offsetOf, headerOffset, headerFlags, headerFields, firstLoaded, countLoaded, unknownRequest, noAddresses, cutOff, beforeImage, nothingLeft, pastImage, bssBelow, entryOutside, headerChecks, loadChecks, imageChecks, noSegment, segmentNo, kernelAt, kernelOf, withKernel, judged}
 

@@ -1,5 +1,4 @@
 // The checks on the header and on the load.
-use crate::header;
 use crate::load;
 use crate::load::Fields;
 use address::ImageOffset;

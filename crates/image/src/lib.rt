@@ -7,13 +7,12 @@ use load::Fields;
 ghost use mathlib.Core.Path.{_≡_};
 ghost use Prim.Native.Nat.{_^_, _<_};
 ghost use Rattle.laws.specs.Checks.{firstOf};
-ghost use Rattle.image.specs.Header.{header};
+ghost use Rattle.header.specs.Header.{header};
 ghost use Rattle.image.specs.Load.{onPages, loadLength, loadEnd};
 ghost use Rattle.image.specs.Narrow.{Narrow};
 ghost use Rattle.image.specs.Judged.{loadChecks, noSegment, noKernel, kernelAt, refused, withKernel, judged};
 
 mod check;
-pub mod header;
 mod load;
 
 // At most so many segments.

@@ -1,7 +1,7 @@
 // The load calculation: a header's address fields, and which bytes of the image go where.
-use crate::header::Search;
 use address::ImageOffset;
 use address::PhysAddr;
+use header::Search;
 ghost use mathlib.Core.Path.{_≡_};
 ghost use mathlib.Core.Bool.{cond};
 ghost use Prim.Native.Nat.{_+_, _-_, _^_, _≤_, _<_, max};

@@ -26,11 +26,11 @@ use Rattle.board.specs.declared.Board.{Board}
 use Rattle.board.specs.OpenLaws.{Open, open-is, all-open-is}
 use Rattle.memory_map.specs.Pairs.{mapChecks}
 use Rattle.memory_map.specs.PairsLaws.{good-map, map-good}
-use Rattle.image.specs.declared.header.Search.{Search}
-use Rattle.image.specs.declared.header.Search.the-variants.{At, Nothing}
+use Rattle.header.specs.declared.Search.{Search}
+use Rattle.header.specs.declared.Search.the-variants.{At, Nothing}
 use Rattle.image.specs.declared.Kernel.{Kernel}
-use Rattle.image.specs.Header.{header}
-use Rattle.image.specs.HeaderLaws.{HeaderAt, header-lowest, header-none, none-header}
+use Rattle.header.specs.Header.{header}
+use Rattle.header.specs.HeaderLaws.{HeaderAt, header-lowest, header-none, none-header}
 use Rattle.image.specs.Judged.{noHeader, headerChecks, loadChecks, imageChecks}
 use Rattle.image.specs.JudgedLaws.{calculated}
 use Rattle.image.specs.JudgedLaws.{accepted as accepted-image}

@@ -29,8 +29,8 @@ use Rattle.submission.specs.RuleLaws.{Accepted}
 use Rattle.memory_map.specs.Pairs.{badMap, mapOf}
 use Rattle.memory_map.specs.PairsLaws.{GoodMap}
 use Rattle.usable.specs.Sizes.{memLower, memUpper}
-use Rattle.image.specs.Header.{header}
-use Rattle.image.specs.HeaderLaws.{HeaderAt}
+use Rattle.header.specs.Header.{header}
+use Rattle.header.specs.HeaderLaws.{HeaderAt}
 use Rattle.image.specs.Load.{loadEnd}
 use Rattle.image.specs.Judged.{noHeader, headerOffset, headerFlags, headerFields, firstLoaded, countLoaded, unknownRequest, noAddresses, cutOff, beforeImage, nothingLeft, pastImage, bssBelow, entryOutside, segmentNo}
 use Rattle.image.specs.JudgedLaws.{Calculated}

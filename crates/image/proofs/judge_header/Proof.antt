@@ -5,8 +5,8 @@ use Prim.Native.Nat.{_+_, _≤_}
 use native.Mathlib.Omega.{arith}
 use lib.ListN.{length}
 use borrow.Author.Needs.{needs}
-use Rattle.image.specs.Header.{searched, headerLength}
-use Rattle.image.specs.HeaderLaws.{header-lowest}
+use Rattle.header.specs.Header.{searched, headerLength}
+use Rattle.header.specs.HeaderLaws.{header-lowest}
 use Rattle.image.specs.JudgedLaws.{not-cut-off}
 use Rattle.image.proofs.Tests.{told}
 use Rattle.image.proofs.Refusals.{Found, Whole, unknown-request, no-addresses, cut-off, before-image, load-left, offset-below}

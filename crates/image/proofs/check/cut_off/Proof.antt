@@ -3,7 +3,7 @@
 use mathlib.Core.Path.{sym}
 use Prim.Native.Nat.{_+_, _≤_, _<_}
 use native.Mathlib.Omega.{arith}
-use Rattle.image.specs.Header.{searched}
+use Rattle.header.specs.Header.{searched}
 use Rattle.image.specs.Load.{wholeLength}
 use borrow.Author.Needs.{needs}
 use Rattle.image.proofs.Tests.{tests}

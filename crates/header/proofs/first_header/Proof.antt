@@ -1,14 +1,14 @@
--- `image::header::first_header` meets its contract. The loop's invariant: the search from the start is the search from here.
+-- `header::first_header` meets its contract. The loop's invariant: the search from the start is the search from here.
 -- Assumes nothing.
 use mathlib.Core.Path.{_≡_, refl, sym, _∙_}
 use Prim.Native.Nat.{_+_, _-_, _≤_}
 use native.Mathlib.Omega.{arith}
 use borrow.Author.Needs.{needs}
 use lib.ListN.{length, drop, length-drop}
-use Rattle.image.specs.Header.{headerLength, words, headerFrom}
-use Rattle.image.specs.WalkLaws.{found-at, passed-at, none-left}
-use Rattle.image.proofs.header.first_header.Statement.{statement}
-use Rattle.image.proofs.header.first_header.Tie as tie
+use Rattle.header.specs.Header.{headerLength, words, headerFrom}
+use Rattle.header.specs.WalkLaws.{found-at, passed-at, none-left}
+use Rattle.header.proofs.first_header.Statement.{statement}
+use Rattle.header.proofs.first_header.Tie as tie
 
 abbrev Inv-loop : tie.InvT-loop
 Inv-loop s at₀ at = (at ≤ length s) × (headerFrom 0 (words s) ≡ headerFrom at (words (drop at s)))

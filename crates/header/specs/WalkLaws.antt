@@ -13,8 +13,8 @@ use lib.ListN.{length, take, drop, length-drop}
 use lib.Seq.{drop-drop, take-all}
 use borrow.Author.Tests.{eq-eqb, ne-eqb}
 use Rattle.number.specs.Number.{number, numberAt}
-use Rattle.image.specs.declared.header.Search.the-variants.{At, Nothing}
-use Rattle.image.specs.Header.{magic, searched, headerLength, words, isHeader, headerFrom, header}
+use Rattle.header.specs.declared.Search.the-variants.{At, Nothing}
+use Rattle.header.specs.Header.{magic, searched, headerLength, words, isHeader, headerFrom, header}
 
 words-cons : (s : List ℕ) → 4 ≤ length s → words s ≡ number 4 s ∷ words (drop 4 s)
 unfolding words number

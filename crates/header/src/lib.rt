@@ -4,7 +4,7 @@ ghost use mathlib.Core.Path.{_≡_};
 ghost use Prim.Native.Nat.{_+_, _≤_};
 ghost use lib.ListN.{length};
 ghost use Rattle.number.specs.Number.{numberAt};
-ghost use Rattle.image.specs.Header.{headerLength, words, isHeader, headerFrom, header};
+ghost use Rattle.header.specs.Header.{headerLength, words, isHeader, headerFrom, header};
 
 // A header begins with this number.
 const MAGIC: u32 = 0x1BADB002;

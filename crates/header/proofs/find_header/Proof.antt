@@ -1,12 +1,12 @@
--- `image::header::find_header` meets its contract: a long image is cut to its searched part, a short one searched whole.
+-- `header::find_header` meets its contract: a long image is cut to its searched part, a short one searched whole.
 -- Assumes nothing.
 use mathlib.Core.Path.{sym, _∙_}
 use native.Mathlib.Omega.{arith}
 use borrow.Author.Needs.{needs}
 use lib.Seq.{length-take-le}
-use Rattle.image.specs.WalkLaws.{whole-image, first-part}
-use Rattle.image.proofs.header.find_header.Statement.{statement}
-use Rattle.image.proofs.header.find_header.Tie as tie
+use Rattle.header.specs.WalkLaws.{whole-image, first-part}
+use Rattle.header.proofs.find_header.Statement.{statement}
+use Rattle.header.proofs.find_header.Tie as tie
 
 first-header-requires : tie.Need-first-header-requires
 first-header-requires c κs = search needs

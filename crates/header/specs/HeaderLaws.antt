@@ -19,10 +19,10 @@ use Rattle.laws.specs.CheckLaws.{and-both}
 use Rattle.number.specs.Number.{numberAt}
 use Rattle.number.specs.NumberLaws.{number-take}
 use Rattle.address.specs.declared.ImageOffset.{ImageOffset}
-use Rattle.image.specs.declared.header.Search.{Search}
-use Rattle.image.specs.declared.header.Search.the-variants.{At, Nothing}
-use Rattle.image.specs.Header.{magic, searched, headerLength, words, isHeader, headerFrom, header}
-use Rattle.image.specs.WalkLaws.{found-at, passed-at, none-left}
+use Rattle.header.specs.declared.Search.{Search}
+use Rattle.header.specs.declared.Search.the-variants.{At, Nothing}
+use Rattle.header.specs.Header.{magic, searched, headerLength, words, isHeader, headerFrom, header}
+use Rattle.header.specs.WalkLaws.{found-at, passed-at, none-left}
 
 -- a header stands at the offset o: a multiple of 4, with 12 bytes inside both the image and its searched part, the magic,
 -- and a sum of magic, flags and checksum that is 0 modulo 2^32

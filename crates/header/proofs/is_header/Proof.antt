@@ -1,10 +1,10 @@
--- `image::header::is_header` meets its contract: its two tests are those of `isHeader`.
+-- `header::is_header` meets its contract: its two tests are those of `isHeader`.
 -- Assumes nothing.
 use mathlib.Core.Path.{_∙_}
 use borrow.Author.Needs.{needs}
-use Rattle.image.specs.WalkLaws.{other-magic, by-sum}
-use Rattle.image.proofs.header.is_header.Statement.{statement}
-use Rattle.image.proofs.header.is_header.Tie as tie
+use Rattle.header.specs.WalkLaws.{other-magic, by-sum}
+use Rattle.header.proofs.is_header.Statement.{statement}
+use Rattle.header.proofs.is_header.Tie as tie
 
 read-u32-requires : tie.Need-read-u32-requires
 read-u32-requires c κs = search needs

@@ -1,0 +1,4 @@
+-- The definitions that the contracts of `header` cite, and their laws.
+pub mod Header
+pub mod WalkLaws
+pub mod HeaderLaws
