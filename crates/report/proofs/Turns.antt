@@ -9,7 +9,7 @@ use mathlib.Core.List.{List, [], _∷_, _++_, append-assoc, append-nil}
 use Prim.Native.Nat.{ℕ, zero, suc, _+_, _-_, _/_, _%_, _≤_, _<_}
 use native.Mathlib.Omega.{arith}
 use borrow.Author.Tests.{eq-eqb, ne-eqb}
-use lib.ListN.{length, take, drop, getD, set, length-set, length-drop}
+use lib.ListN.{length, take, drop, getD, set, length-set, length-take, length-drop, drop-of-length-le}
 use lib.Seq.{drop-cons, getD-set-same, drop-set-lt, take-set-lt, take-all, length-take-le}
 use Rattle.viertompu.specs.Rows.{rows}
 use Rattle.submission.specs.Format.{moduleLimit}
@@ -18,11 +18,6 @@ use Rattle.report.specs.Text.{Wrote, blank, newline, hexLength, decimalL
 use Rattle.report.specs.TextLaws.{wrote-behind}
 use Rattle.report.specs.Report.{refusedWord, numberIn, segmentLine, moduleLine, infoLine, refusalText, reportOf}
 use Rattle.report.specs.ReportLaws.{report-of-load}
-
-drop-take : (k : ℕ) (l : List ℕ) → drop k (take k l) ≡ []
-drop-take zero l = refl
-drop-take (suc k) [] = refl
-drop-take (suc k) (x ∷ l) = drop-take k l
 
 -- a digit in front of those spelled
 digit-more : (l : List ℕ) (base k j rest g : ℕ) → j < k → k ≤ length l → g ≡ glyphOf (rest % base)
@@ -36,7 +31,7 @@ digit-more l base k j rest g h n e =
 -- no digit is spelled yet, a digit more, all of them
 module _ (l : List ℕ) (base k x : ℕ) where
   pub spelled-none : digitsOf base k x ≡ digitsOf base k x ++ drop k (take k l)
-  spelled-none = rw (drop-take k l, append-nil) refl
+  spelled-none = rw (drop-of-length-le (take k l) {i = k} (simp length-take (omega arith)), append-nil) refl
 
   pub spelled-more : (i rest g : ℕ) → 0 < i → i ≤ k → k ≤ length l → g ≡ glyphOf (rest % base)
       → digitsOf base k x ≡ digitsOf base i rest ++ drop i (take k l)
