@@ -8,7 +8,7 @@ use mathlib.Core.Bool.{Bool, cond}
 use Prim.Native.Nat.{ℕ}
 use lib.Dec.{eqb}
 use Rattle.answer.specs.declared.Answer.{Answer}
-use Rattle.answer.specs.declared.Answer.the-variants.{Load, NotASubmission, BadSubmission, BadOperatorLine, WindowPastTop, BadMemoryMap, NoHeader, UnknownRequest, NoAddressFields, HeaderCutOff, LoadBeforeImage, NothingToLoad, LoadPastImage, BssBelowLoadEnd, EntryOutsideLoad, KernelNotOpen, NoRoomForModule, NoRoomForInformation}
+use Rattle.answer.specs.declared.Answer.the-variants.{Load, NotASubmission, BadSubmission, BadOperatorLine, WindowPastTop, BadMemoryMap, NoHeader, UnknownRequest, NoAddressFields, HeaderCutOff, LoadBeforeImage, NothingToLoad, LoadPastImage, BssBelowLoadEnd, EntryOutsideLoad, KernelNotOpen, NoRoomForModule, NoRoomForBlock}
 
 abbrev pub numberOf : Answer → ℕ
 numberOf Load = 0
@@ -28,7 +28,7 @@ numberOf BssBelowLoadEnd = 13
 numberOf EntryOutsideLoad = 14
 numberOf KernelNotOpen = 15
 numberOf (NoRoomForModule i) = 16
-numberOf NoRoomForInformation = 17
+numberOf NoRoomForBlock = 17
 
 abbrev pub itemOf : Answer → ℕ
 itemOf Load = 0
@@ -48,7 +48,7 @@ itemOf BssBelowLoadEnd = 0
 itemOf EntryOutsideLoad = 0
 itemOf KernelNotOpen = 0
 itemOf (NoRoomForModule i) = i
-itemOf NoRoomForInformation = 0
+itemOf NoRoomForBlock = 0
 
 abbrev pub isLoad : Answer → Bool
 isLoad a = eqb (numberOf a) 0

@@ -4,7 +4,7 @@
 use mathlib.Core.Path.{_≡_, refl}
 use Rattle.answer.specs.Answer.{numberOf, itemOf}
 use Rattle.answer.specs.declared.Answer.{Answer}
-use Rattle.answer.specs.declared.Answer.the-variants.{Load, NotASubmission, BadSubmission, BadOperatorLine, WindowPastTop, BadMemoryMap, NoHeader, UnknownRequest, NoAddressFields, HeaderCutOff, LoadBeforeImage, NothingToLoad, LoadPastImage, BssBelowLoadEnd, EntryOutsideLoad, KernelNotOpen, NoRoomForModule, NoRoomForInformation}
+use Rattle.answer.specs.declared.Answer.the-variants.{Load, NotASubmission, BadSubmission, BadOperatorLine, WindowPastTop, BadMemoryMap, NoHeader, UnknownRequest, NoAddressFields, HeaderCutOff, LoadBeforeImage, NothingToLoad, LoadPastImage, BssBelowLoadEnd, EntryOutsideLoad, KernelNotOpen, NoRoomForModule, NoRoomForBlock}
 
 pub item-none : (a : Answer) → (numberOf a ≡ 16 → ⊥) → itemOf a ≡ 0
 item-none Load h = refl
@@ -24,4 +24,4 @@ item-none BssBelowLoadEnd h = refl
 item-none EntryOutsideLoad h = refl
 item-none KernelNotOpen h = refl
 item-none (NoRoomForModule i) h = absurd (h refl)
-item-none NoRoomForInformation h = refl
+item-none NoRoomForBlock h = refl

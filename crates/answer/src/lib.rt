@@ -39,7 +39,7 @@ pub enum Answer {
     // 16: there is no room for a module; the item is its index, counted from 0
     NoRoomForModule(u32),
     // 17: there is no room for the information block
-    NoRoomForInformation,
+    NoRoomForBlock,
 }
 
 // The number of an answer.
@@ -64,7 +64,7 @@ pub fn number(a: Answer) -> u32
         Answer::EntryOutsideLoad => 14,
         Answer::KernelNotOpen => 15,
         Answer::NoRoomForModule(_) => 16,
-        Answer::NoRoomForInformation => 17,
+        Answer::NoRoomForBlock => 17,
     }
 }
 

@@ -8,15 +8,15 @@ use borrow.Author.Tests.{lt-ltb}
 use Rattle.address.specs.Address.{inside}
 use Rattle.edge.specs.Edge.{nearest}
 use Rattle.edge.specs.EdgeLaws.{Edge, nearest-is}
-use Rattle.usable.specs.Usable.{limit}
+use Rattle.usable.specs.Usable.{addressSpace}
 use Rattle.usable.specs.MapEdgeLaws.{map-edge-is}
 use Rattle.board.specs.declared.Board.{Board}
-use Rattle.board.specs.Open.{openAt}
+use Rattle.board.specs.Open.{isOpen}
 use Rattle.board.specs.OpenEdge.{openEdge}
 
-module _ (b : Board) (x : ℕ) (l : x < b .window .end .0) (small : b .window .end .0 ≤ limit) where
-  pub open-edge-is : Edge (openAt b) x (b .window .end .0) (openEdge b x)
-  unfolding openAt openEdge inside
+module _ (b : Board) (x : ℕ) (l : x < b .window .end .0) (small : b .window .end .0 ≤ addressSpace) where
+  pub open-edge-is : Edge (isOpen b) x (b .window .end .0) (openEdge b x)
+  unfolding isOpen openEdge inside
   open-edge-is =
       let e : ℕ = b .window .end .0 in
       let p = nearest-is x e (b .window .start .0) l in
@@ -27,5 +27,5 @@ module _ (b : Board) (x : ℕ) (l : x < b .window .end .0) (small : b .window .e
         same = λ y u v. rw (q .same y u v, p .same y u (omega arith), lt-ltb y e (omega arith), lt-ltb x e l);
       }
 
-  pub open-edge-at : (r : ℕ) → r ≡ openEdge b x → Edge (openAt b) x (b .window .end .0) r
+  pub open-edge-at : (r : ℕ) → r ≡ openEdge b x → Edge (isOpen b) x (b .window .end .0) r
   open-edge-at r q = rw q open-edge-is

@@ -14,34 +14,34 @@ use Rattle.laws.specs.Tests.{allFrom}
 use Rattle.laws.specs.TestLaws.{and-left, and-right, all-intro, all-elim}
 use Rattle.address.specs.Address.{inside}
 use Rattle.address.specs.InsideLaws.{inside-is}
-use Rattle.usable.specs.Usable.{limit, usableAt}
+use Rattle.usable.specs.Usable.{addressSpace, isUsable}
 use Rattle.usable.specs.UsableLaws.{Usable, usable-is}
 use Rattle.board.specs.declared.Board.{Board}
-use Rattle.board.specs.Open.{openAt}
+use Rattle.board.specs.Open.{isOpen}
 
 pub record Open (b : Board) (a : ℕ) : Type 0 where
   pub usable : Usable (b .map) a
   pub window : (b .window .start .0 ≤ a) × (a < b .window .end .0)
 
 module _ (b : Board) where
-  pub open-is : (a : ℕ) → (openAt b a ≡ true) ↔ Open b a
-  unfolding openAt
+  pub open-is : (a : ℕ) → (isOpen b a ≡ true) ↔ Open b a
+  unfolding isOpen
   open-is a =
-      let U : Bool = usableAt (b .map) a in
+      let U : Bool = isUsable (b .map) a in
       let W : Bool = inside (b .window .start .0) (b .window .end .0) a in (
         λ e. record { usable = usable-is (b .map) a .0 (and-left U W e); window = inside-is _ _ a .0 (and-right U W e) },
         λ h. rw (usable-is (b .map) a .1 (h .usable), inside-is _ _ a .1 (h .window)),
       )
 
-  pub open-below : (a : ℕ) → openAt b a ≡ true → a < limit
+  pub open-below : (a : ℕ) → isOpen b a ≡ true → a < addressSpace
   open-below a e = open-is a .0 e .usable .below
 
-  pub open-end : (a : ℕ) → b .window .end .0 ≤ a → openAt b a ≡ false
-  unfolding openAt inside
+  pub open-end : (a : ℕ) → b .window .end .0 ≤ a → isOpen b a ≡ false
+  unfolding isOpen inside
   open-end a l = rw (le-ltb a (b .window .end .0) l, and-false, and-false)
 
-  pub all-open-is : (start end : ℕ) → (allFrom (openAt b) start (end - start) ≡ true) ↔ ((a : ℕ) → start ≤ a → a < end → openAt b a ≡ true)
+  pub all-open-is : (start end : ℕ) → (allFrom (isOpen b) start (end - start) ≡ true) ↔ ((a : ℕ) → start ≤ a → a < end → isOpen b a ≡ true)
   all-open-is start end = (
-    λ e a l u. all-elim (openAt b) start (end - start) e a l (omega arith),
-    λ h. all-intro (openAt b) start (end - start) (λ a l u. h a l (omega arith)),
+    λ e a l u. all-elim (isOpen b) start (end - start) e a l (omega arith),
+    λ h. all-intro (isOpen b) start (end - start) (λ a l u. h a l (omega arith)),
   )

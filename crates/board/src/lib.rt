@@ -6,7 +6,7 @@ ghost use mathlib.Core.Path.{_≡_};
 ghost use Prim.Native.Nat.{_-_, _≤_};
 ghost use Rattle.laws.specs.Tests.{allFrom};
 ghost use Rattle.memory_map.specs.Pairs.{maxPairs};
-ghost use Rattle.board.specs.Open.{openAt, Checked};
+ghost use Rattle.board.specs.Open.{isOpen, Checked};
 ghost use Rattle.board.specs.OpenEdge.{openEdge};
 
 pub mod window;
@@ -18,14 +18,14 @@ pub struct Board {
 }
 
 // Whether the address is open: usable and inside the window.
-pub fn open_at(board: Board, a: PhysAddr) -> bool
+pub fn is_open(board: Board, a: PhysAddr) -> bool
     requires { ⌜ board .map .count ≤ maxPairs ⌝ }
-    ensures { λ r. ⌜ r ≡ openAt board (a .0) ⌝ }
+    ensures { λ r. ⌜ r ≡ isOpen board (a .0) ⌝ }
 {
     if !board.window.contains(a) {
         return false;
     }
-    usable::usable_at(board.map, a)
+    usable::is_usable(board.map, a)
 }
 
 // The nearest edge of the window or a pair past x, at most the window's end: up to it all addresses are open, or none is.
@@ -40,11 +40,11 @@ pub fn open_edge(board: Board, x: PhysAddr) -> PhysAddr
 // Whether every address of the span is open.
 pub fn all_open(board: Board, span: Span) -> bool
     requires { ⌜ Checked board ⌝ }
-    ensures { λ r. ⌜ r ≡ allFrom (openAt board) (span .start .0) (span .end .0 - span .start .0) ⌝ }
+    ensures { λ r. ⌜ r ≡ allFrom (isOpen board) (span .start .0) (span .end .0 - span .start .0) ⌝ }
 {
     let mut x = span.start;
     while x.0 < span.end.0 {
-        if !open_at(board, x) {
+        if !is_open(board, x) {
             return false;
         }
         x = open_edge(board, x);

@@ -1,4 +1,4 @@
 -- Worked examples as one statement over one table.
-pub mod Walk
-pub mod Model
+pub mod WalkLaws
+pub mod ModelLaws
 pub mod Table

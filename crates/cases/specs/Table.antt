@@ -16,7 +16,7 @@ use Rattle.laws.specs.Table.{listed}
 use Rattle.laws.specs.TestLaws.{and-left, and-right}
 use Rattle.laws.specs.Checks.{firstOf, passes}
 use Rattle.number.specs.Number.{number, numberBytes, wordBytes}
-use Rattle.memory.specs.Patched.{patched}
+use Rattle.buffer.specs.Patched.{patched}
 use Rattle.address.specs.Address.{page, isMultiple, roundUp, inside, noSpan}
 use Rattle.answer.specs.Answer.{numberOf, itemOf}
 use Rattle.edge.specs.Edge.{nearest, spanEdge, edgeUpTo}
@@ -26,24 +26,24 @@ use Rattle.submission.specs.Rules.{isSubmission, inLimits, stringHolds, rulesHo
 use Rattle.command_line.specs.CommandLine.{operatorChecks, lineInForce, commandLine}
 use Rattle.header.specs.Header.{magic, words, isHeader, headerFrom, header}
 use Rattle.image.specs.Load.{fieldsAt, loadLength}
-use Rattle.image.specs.Judged.{headerChecks, loadChecks, imageChecks, kernelAt, kernelOf, segmentNo}
-use Rattle.memory_map.specs.Pairs.{nextAt, pairAt, begins, pairCount, small, past, badMap, mapChecks, pairOf, firstPairs}
-use Rattle.usable.specs.Usable.{limit, covers, usableBy, barredBy, usableAt}
+use Rattle.image.specs.Judged.{headerChecks, loadChecks, imageChecks, kernelFor, kernelOf, segmentNo}
+use Rattle.memory_map.specs.Pairs.{nextOffset, pairOffset, begins, pairCount, tooSmall, pastEnd, badMap, mapChecks, pairAt, firstPairs}
+use Rattle.usable.specs.Usable.{addressSpace, covers, usableBy, barredBy, isUsable}
 use Rattle.usable.specs.MapEdge.{mapEdge}
-use Rattle.board.specs.Open.{openAt}
+use Rattle.board.specs.Open.{isOpen}
 use Rattle.board.specs.OpenEdge.{openEdge}
 use Rattle.board.specs.Window.{windowChecks}
-use Rattle.placement.specs.Free.{takenBy, takenAt, freeAt}
+use Rattle.placement.specs.Free.{takenBy, isTaken, isFree}
 use Rattle.placement.specs.FreeEdge.{takenEdge, freeEdge}
 use Rattle.placement.specs.Order.{withSpan}
-use Rattle.information.specs.Information.{textSize, textsSize, stringLengths, blockLength}
+use Rattle.block.specs.Block.{textSize, textsSize, stringLengths, blockLength}
 use Rattle.decision.specs.declared.Decision.{Decision}
 use Rattle.decision.specs.Lent.{Lent}
-use Rattle.items.specs.LoadItems.{extentsOf, itemNo, itemsOf, moduleSpans}
+use Rattle.items.specs.LoadItems.{extentsOf, loadItem, itemsOf, moduleSpans}
 use Rattle.decision.specs.Decided.{extentOpen, kernelOpen, kernelChecks, roomChecks, planOf, noPlan, decidedBy}
 use Rattle.decision.specs.Decision.{lentChecks, decisionOf}
-use Rattle.cases.specs.Walk.{walk, computed, computedFrom}
-use Rattle.cases.specs.Model.{modelIn, decisionWith, modelDecision, decision-computes}
+use Rattle.cases.specs.WalkLaws.{walk, computed, computedFrom}
+use Rattle.cases.specs.ModelLaws.{modelIn, decisionWith, modelDecision, decision-computes}
 
 -- an image of so many bytes with a header's words at an offset and zeros elsewhere, whether the module comes with it, the
 -- window's length, and what must come out
@@ -116,12 +116,12 @@ rows =
 -- a window ends a page before 2^32 or earlier, so that the model serves
 abbrev served : List Row → Bool
 served [] = true
-served (r ∷ rs) = leb (0x100000 + r .window + page) limit && served rs
+served (r ∷ rs) = leb (0x100000 + r .window + page) addressSpace && served rs
 
 model-serves : (l : List Row) → served l ≡ true → map (λ (r : Row). outcomeOf (decisionOf (lentOf r))) l ≡ map (λ (r : Row). outcomeOf (modelDecision (lentOf r))) l
 model-serves [] h = refl
 model-serves (r ∷ rs) h =
-    let a = leb (0x100000 + r .window + page) limit in
+    let a = leb (0x100000 + r .window + page) addressSpace in
     rw (decision-computes (lentOf r) (leb-true _ _ (and-left a (served rs) h)), model-serves rs (and-right a (served rs) h)) refl
 
 all-served : served rows ≡ true
@@ -129,7 +129,7 @@ unfolding rows
 all-served = refl
 
 computed-rows : map (λ (r : Row). outcomeOf (modelDecision (lentOf r))) rows ≡ map (λ (r : Row). r .outcome) rows
-unfolding rows modelIn decisionWith modelDecision lentChecks extentOpen kernelOpen kernelChecks roomChecks planOf noPlan decidedBy extentsOf itemNo itemsOf moduleSpans textSize textsSize stringLengths blockLength walk computed computedFrom withSpan takenBy takenAt freeAt takenEdge freeEdge windowChecks openEdge openAt mapEdge covers usableBy barredBy usableAt nextAt pairAt begins pairCount small past badMap mapChecks pairOf firstPairs headerChecks loadChecks imageChecks kernelAt kernelOf fieldsAt loadLength words isHeader headerFrom header operatorChecks lineInForce commandLine isSubmission inLimits stringHolds rulesHold submissionChecks dataStart layoutOf hasZero sameBytes nearest spanEdge edgeUpTo isMultiple roundUp inside patched number numberBytes wordBytes firstOf passes listed any allFrom run
+unfolding rows modelIn decisionWith modelDecision lentChecks extentOpen kernelOpen kernelChecks roomChecks planOf noPlan decidedBy extentsOf loadItem itemsOf moduleSpans textSize textsSize stringLengths blockLength walk computed computedFrom withSpan takenBy isTaken isFree takenEdge freeEdge windowChecks openEdge isOpen mapEdge covers usableBy barredBy isUsable nextOffset pairOffset begins pairCount tooSmall pastEnd badMap mapChecks pairAt firstPairs headerChecks loadChecks imageChecks kernelFor kernelOf fieldsAt loadLength words isHeader headerFrom header operatorChecks lineInForce commandLine isSubmission inLimits stringHolds rulesHold submissionChecks dataStart layoutOf hasZero sameBytes nearest spanEdge edgeUpTo isMultiple roundUp inside patched number numberBytes wordBytes firstOf passes listed any allFrom run
 computed-rows = refl
 
 pub rows-hold : map (λ (r : Row). outcomeOf (decisionOf (lentOf r))) rows ≡ map (λ (r : Row). r .outcome) rows

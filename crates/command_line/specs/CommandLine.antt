@@ -11,16 +11,16 @@ use Rattle.answer.specs.declared.Answer.{Answer}
 use Rattle.answer.specs.declared.Answer.the-variants.{BadOperatorLine}
 use Rattle.laws.specs.Checks.{Check, _gives_, passes}
 use Rattle.submission.specs.Scan.{hasZero}
-use Rattle.submission.specs.Format.{lineOf, bytesOf}
-use Rattle.submission.specs.Rules.{lineLimit, submissionChecks}
+use Rattle.submission.specs.Format.{linePart, bytesOf}
+use Rattle.submission.specs.Rules.{maxLine, submissionChecks}
 
 -- 3: over 255 bytes, or a zero byte
 unfoldable pub operatorChecks : List ℕ → List (Check Answer)
-operatorChecks line = (ltb lineLimit (length line) || hasZero line) gives BadOperatorLine ∷ []
+operatorChecks line = (ltb maxLine (length line) || hasZero line) gives BadOperatorLine ∷ []
 
 -- the operator's line if it is not empty, else the submission's
 unfoldable pub lineInForce : List ℕ → List ℕ → List ℕ
-lineInForce [] s = bytesOf s (lineOf s)
+lineInForce [] s = bytesOf s (linePart s)
 lineInForce (x ∷ line) s = x ∷ line
 
 -- the same, and empty where 1, 2 or 3 applies

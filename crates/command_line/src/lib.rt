@@ -8,7 +8,7 @@ ghost use Rattle.command_line.specs.CommandLine.{operatorChecks, command
 pub fn check_operator(line: &[u8]) -> Answer
     ensures { λ r. ⌜ r ≡ firstOf (operatorChecks (now (line .entry))) Answer.Load ⌝ }
 {
-    if submission::LINE < line.len() {
+    if submission::MAX_LINE < line.len() {
         return Answer::BadOperatorLine;
     }
     if submission::scan::has_zero(line) {

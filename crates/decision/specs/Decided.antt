@@ -14,25 +14,24 @@ use Rattle.laws.specs.Tests.{allFrom}
 use Rattle.laws.specs.Checks.{Check, _gives_, firstOf}
 use Rattle.answer.specs.Answer.{isLoad}
 use Rattle.answer.specs.declared.Answer.{Answer}
-use Rattle.answer.specs.declared.Answer.the-variants.{Load, KernelNotOpen, NoRoomForModule, NoRoomForInformation}
+use Rattle.answer.specs.declared.Answer.the-variants.{Load, KernelNotOpen, NoRoomForModule, NoRoomForBlock}
 use Rattle.submission.specs.declared.Layout.{Layout}
-use Rattle.submission.specs.Format.{moduleLimit}
+use Rattle.submission.specs.Format.{maxModules}
 use Rattle.image.specs.declared.Kernel.{Kernel}
 use Rattle.image.specs.Judged.{noKernel}
 use Rattle.board.specs.declared.Board.{Board}
-use Rattle.board.specs.Open.{openAt}
+use Rattle.board.specs.Open.{isOpen}
 use Rattle.placement.specs.declared.Spans.{Spans}
 use Rattle.placement.specs.declared.Placed.{Placed}
-use Rattle.placement.specs.Free.{spanAt}
 use Rattle.placement.specs.Order.{placeItems}
-use Rattle.address.specs.Address.{noSpan}
+use Rattle.address.specs.Address.{noSpan, spanNo}
 use Rattle.decision.specs.declared.Plan.{Plan}
 use Rattle.decision.specs.declared.Decision.{Decision}
 use Rattle.items.specs.LoadItems.{extentNo, extentsOf, itemsOf, moduleSpans}
 
 -- the kernel's extents lie wholly in open memory
 unfoldable pub extentOpen : Board → Kernel → ℕ → Bool
-extentOpen b k i = allFrom (openAt b) (extentNo k i .start .0) (extentNo k i .end .0 - extentNo k i .start .0)
+extentOpen b k i = allFrom (isOpen b) (extentNo k i .start .0) (extentNo k i .end .0 - extentNo k i .start .0)
 
 unfoldable pub kernelOpen : Board → Kernel → Bool
 kernelOpen b k = allFrom (extentOpen b k) 0 (k .count)
@@ -43,7 +42,7 @@ kernelChecks b k = (not (kernelOpen b k) gives KernelNotOpen) ∷ []
 
 -- 16 and 17: `done` items found room, of n modules and the information block
 unfoldable pub roomChecks : ℕ → ℕ → List (Check Answer)
-roomChecks done n = (ltb done n gives NoRoomForModule done) ∷ (ltb done (n + 1) gives NoRoomForInformation) ∷ []
+roomChecks done n = (ltb done n gives NoRoomForModule done) ∷ (ltb done (n + 1) gives NoRoomForBlock) ∷ []
 
 -- the number handed over in EAX
 abbrev pub bootMagic : ℕ
@@ -55,13 +54,13 @@ planOf k t n =
     record {
       kernel = k;
       modules = moduleSpans t (k .count) n;
-      block = spanAt t (k .count + n);
+      block = spanNo (t .list) (k .count + n);
       eax = bootMagic;
-      ebx = spanAt t (k .count + n) .start .0;
+      ebx = spanNo (t .list) (k .count + n) .start .0;
     }
 
 unfoldable pub noPlan : Plan
-noPlan = record { kernel = noKernel; modules = replicate moduleLimit noSpan; block = noSpan; eax = 0; ebx = 0 }
+noPlan = record { kernel = noKernel; modules = replicate maxModules noSpan; block = noSpan; eax = 0; ebx = 0 }
 
 -- a refusal comes with zeros
 unfoldable pub decidedBy : List (Check Answer) → Plan → Decision
@@ -69,7 +68,7 @@ decidedBy ks p = record { answer = firstOf ks Load; plan = cond (isLoad (firstOf
 
 -- each module in list order, then the information block of so many bytes, beside the kernel's extents
 unfoldable pub placedBy : Board → Kernel → Layout → ℕ → Placed
-placedBy b k l size = placeItems (openAt b) (extentsOf k) (itemsOf l (k .pages) size)
+placedBy b k l size = placeItems (isOpen b) (extentsOf k) (itemsOf l (k .pages) size)
 
 -- 15 to 17, and the plan
 abbrev pub memoryChecks : Board → Kernel → Layout → ℕ → List (Check Answer)

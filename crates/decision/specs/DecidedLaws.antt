@@ -7,7 +7,7 @@ use mathlib.Core.Bool.{true, false}
 use mathlib.Core.List.{List, _++_}
 use Rattle.laws.specs.Checks.{Check, firstOf}
 use Rattle.answer.specs.Answer.{isLoad}
-use Rattle.answer.specs.Order.{refuses, chain-append, or-else-first, or-else-second}
+use Rattle.answer.specs.ChainLaws.{refuses, chain-append, or-else-first, or-else-second}
 use Rattle.answer.specs.declared.Answer.{Answer}
 use Rattle.answer.specs.declared.Answer.the-variants.{Load}
 use Rattle.decision.specs.declared.Plan.{Plan}

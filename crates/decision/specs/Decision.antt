@@ -18,11 +18,11 @@ use Rattle.image.specs.Judged.{imageChecks}
 use Rattle.placement.specs.declared.Placed.{Placed}
 use Rattle.decision.specs.declared.Plan.{Plan}
 use Rattle.decision.specs.declared.Decision.{Decision}
-use Rattle.decision.specs.Lent.{Lent, layoutIn, imageIn, kernelIn, boardIn, blockIn}
+use Rattle.decision.specs.Lent.{Lent, layoutIn, imageIn, kernelIn, boardIn, blockLengthIn}
 use Rattle.decision.specs.Decided.{placedBy, memoryChecks, memoryPlan, decidedBy}
 
 abbrev pub placedIn : Lent → Placed
-placedIn x = placedBy (boardIn x) (kernelIn x) (layoutIn x) (blockIn x)
+placedIn x = placedBy (boardIn x) (kernelIn x) (layoutIn x) (blockLengthIn x)
 
 -- 1 and 2, 3, 4, 5, 6 to 14
 unfoldable pub lentChecks : Lent → List (Check Answer)
@@ -35,13 +35,13 @@ lentChecks x =
 
 -- then 15, 16 and 17
 unfoldable pub checks : Lent → List (Check Answer)
-checks x = lentChecks x ++ memoryChecks (boardIn x) (kernelIn x) (layoutIn x) (blockIn x)
+checks x = lentChecks x ++ memoryChecks (boardIn x) (kernelIn x) (layoutIn x) (blockLengthIn x)
 
 abbrev pub answerOf : Lent → Answer
 answerOf x = firstOf (checks x) Load
 
 abbrev pub planIn : Lent → Plan
-planIn x = memoryPlan (boardIn x) (kernelIn x) (layoutIn x) (blockIn x)
+planIn x = memoryPlan (boardIn x) (kernelIn x) (layoutIn x) (blockLengthIn x)
 
 unfoldable pub decisionOf : Lent → Decision
 decisionOf x = decidedBy (checks x) (planIn x)

@@ -1,11 +1,11 @@
 -- What the checks before 15 show, and how the decision goes on from them.
 --     lent-refuses                checks 1 to 14 refuse
 --     answer-is                   the first refusal of the stages is the answer of checks 1 to 14
---     Passed, passed              what is known where none of them applies
+--     LentPassed, lent-passed              what is known where none of them applies
 --     prepared, block-small       so that the items can be placed
 --     verdict-is, layout-known, map-known, kernel-known    what the stages read
 --     decided-refused, decided-on                          a refusal of checks 1 to 14, and the decision on memory
---     board-is, block-is, prepared-is, decision-is         the same as the calls hand it over
+--     board-is, block-length-is, prepared-is, decision-is         the same as the calls hand it over
 -- Assumes nothing.
 use mathlib.Core.Path.{_≡_, refl, sym, ap, _∙_}
 use mathlib.Core.Bool.{true, false}
@@ -16,16 +16,16 @@ use lib.ListN.{length}
 use Rattle.laws.specs.Checks.{firstOf, passes}
 use Rattle.address.specs.Address.{top}
 use Rattle.answer.specs.Answer.{isLoad, orElse}
-use Rattle.answer.specs.Order.{refuses, chain-append, or-else-same, or-else-load, passes-is, load-is}
+use Rattle.answer.specs.ChainLaws.{refuses, chain-append, or-else-same, or-else-load, passes-is, load-is}
 use Rattle.answer.specs.declared.Answer.{Answer}
 use Rattle.answer.specs.declared.Answer.the-variants.{Load}
 use Rattle.submission.specs.declared.Layout.{Layout}
 use Rattle.submission.specs.declared.Module.{Module}
-use Rattle.submission.specs.declared.Parsed.{Parsed}
-use Rattle.submission.specs.Format.{moduleCount, moduleLimit, bytesOf, moduleNo}
+use Rattle.submission.specs.declared.ParsedSubmission.{ParsedSubmission}
+use Rattle.submission.specs.Format.{moduleCount, maxModules, bytesOf, moduleNo}
 use Rattle.submission.specs.FormatLaws.{layout-count, module-at}
-use Rattle.submission.specs.Rules.{submissionChecks, lineLimit, stringLimit, parsed}
-use Rattle.submission.specs.RuleLaws.{Accepted, accepted, submission-refuses, parsed-layout}
+use Rattle.submission.specs.Rules.{submissionChecks, maxLine, maxString, parsedSubmission}
+use Rattle.submission.specs.RuleLaws.{GoodSubmission, good-submission, submission-refuses, parsed-layout}
 use Rattle.command_line.specs.CommandLine.{operatorChecks}
 use Rattle.command_line.specs.CommandLineLaws.{operator-refuses, line-length}
 use Rattle.address.specs.declared.Span.{Span}
@@ -34,17 +34,17 @@ use Rattle.image.specs.declared.Kernel.{Kernel}
 use Rattle.board.specs.declared.Board.{Board}
 use Rattle.board.specs.Window.{windowChecks, windowSpan}
 use Rattle.board.specs.WindowLaws.{window-refuses, window-fits}
-use Rattle.memory_map.specs.declared.parse.Parsed.{Parsed as ParsedMap}
+use Rattle.memory_map.specs.declared.ParsedMap.{ParsedMap}
 use Rattle.memory_map.specs.Pairs.{mapChecks, badMap, firstPairs, mapOf}
-use Rattle.memory_map.specs.Pairs.{parsed as parsedMap}
+use Rattle.memory_map.specs.Pairs.{parsedMap}
 use Rattle.memory_map.specs.PairsLaws.{map-refuses, good-map, load-good, parsed-good}
 use Rattle.image.specs.declared.Judged.{Judged}
 use Rattle.image.specs.Judged.{headerChecks, loadChecks, imageChecks, judged}
 use Rattle.image.specs.JudgedLaws.{image-refuses, judged-answer, judged-load}
-use Rattle.image.specs.JudgedLaws.{accepted as accepted-image}
-use Rattle.information.specs.Information.{stringLengths, blockLength}
-use Rattle.information.specs.WritingLaws.{block-bound}
-use Rattle.decision.specs.Lent.{Lent, layoutIn, imageIn, kernelIn, lineIn, boardIn, blockIn}
+use Rattle.image.specs.JudgedLaws.{good-kernel}
+use Rattle.block.specs.Block.{stringLengths, blockLength}
+use Rattle.block.specs.WritingLaws.{block-bound}
+use Rattle.decision.specs.Lent.{Lent, layoutIn, imageIn, kernelIn, lineIn, boardIn, blockLengthIn}
 use Rattle.decision.specs.Decided.{noPlan, memoryChecks, memoryDecision}
 use Rattle.decision.specs.DecidedLaws.{stage-refuses, stage-passes}
 use Rattle.decision.specs.Decision.{lentChecks, checks, decisionOf}
@@ -76,16 +76,16 @@ module _ (x : Lent) where
         chain-append (mapChecks (x .map)) (imageChecks (imageIn x)) (map-refuses (x .map)),
       )
 
-  -- where the submission is accepted, its layout is the one read
-  layout-read : isLoad (firstOf (submissionChecks (x .submission)) Load) ≡ true → parsed (x .submission) .layout ≡ layoutIn x
+  -- where the submission is good-submission, its layout is the one read
+  layout-read : isLoad (firstOf (submissionChecks (x .submission)) Load) ≡ true → parsedSubmission (x .submission) .layout ≡ layoutIn x
   layout-read h = parsed-layout (x .submission) (sym (passes-is (submissionChecks (x .submission)) (submission-refuses (x .submission))) ∙ h)
 
   pub answer-is : (v : Answer)
-      → v ≡ orElse (parsed (x .submission) .answer)
+      → v ≡ orElse (parsedSubmission (x .submission) .answer)
       (orElse (firstOf (operatorChecks (x .operator)) Load)
-      (orElse (firstOf (windowChecks (x .first) (x .size)) Load) (orElse (parsedMap (x .map) .answer) (judged (bytesOf (x .submission) (parsed (x .submission) .layout .image)) .answer))))
+      (orElse (firstOf (windowChecks (x .first) (x .size)) Load) (orElse (parsedMap (x .map) .answer) (judged (bytesOf (x .submission) (parsedSubmission (x .submission) .layout .image)) .answer))))
       → v ≡ firstOf (lentChecks x) Load
-  unfolding parsed parsedMap
+  unfolding parsedSubmission parsedMap
   answer-is v e =
       e
       ∙ or-else-same (firstOf (submissionChecks (x .submission)) Load) _ _
@@ -93,16 +93,16 @@ module _ (x : Lent) where
       ∙ sym lent-chain
 
 -- what is known where none of checks 1 to 14 applies
-pub record Passed (x : Lent) : Type 0 where
+pub record LentPassed (x : Lent) : Type 0 where
   pub rules : passes (submissionChecks (x .submission)) ≡ true
-  pub submission : Accepted (x .submission)
+  pub submission : GoodSubmission (x .submission)
   pub window : x .first + x .size ≤ top
   pub map : badMap (x .map) ≡ false
   pub image : firstOf (imageChecks (imageIn x)) Load ≡ Load
 
 module _ (x : Lent) where
-  pub passed : isLoad (firstOf (lentChecks x) Load) ≡ true → Passed x
-  passed h =
+  pub lent-passed : isLoad (firstOf (lentChecks x) Load) ≡ true → LentPassed x
+  lent-passed h =
       let a = or-else-load _ _ (ap isLoad (sym (lent-chain x)) ∙ h) in
       let b = or-else-load _ _ (a .1) in
       let c = or-else-load _ _ (b .1) in
@@ -110,36 +110,36 @@ module _ (x : Lent) where
       let r = sym (passes-is (submissionChecks (x .submission)) (submission-refuses (x .submission))) ∙ a .0 in
       record {
         rules = r;
-        submission = accepted (x .submission) r;
+        submission = good-submission (x .submission) r;
         window = window-fits (x .first) (x .size) .0 (load-is _ (window-refuses (x .first) (x .size)) (c .0));
         map = load-good (x .map) (load-is _ (map-refuses (x .map)) (d .0));
         image = load-is _ (image-refuses (imageIn x)) (d .1);
       }
 
-module _ (x : Lent) (p : Passed x) where
-  count-small : layoutIn x .count ≤ moduleLimit
+module _ (x : Lent) (p : LentPassed x) where
+  count-small : layoutIn x .count ≤ maxModules
   count-small = rw (layout-count (x .submission)) (p .submission .count)
 
-  string-small : (i : ℕ) → i < layoutIn x .count → moduleNo (layoutIn x) i .string .len ≤ stringLimit
+  string-small : (i : ℕ) → i < layoutIn x .count → moduleNo (layoutIn x) i .string .len ≤ maxString
   string-small i l =
       let h : i < moduleCount (x .submission) = omega (arith, layout-count (x .submission)) in
       omega (arith, ap (λ (m : Module). m .string .len) (module-at (x .submission) i h), p .submission .string i h)
 
   -- the information block is short, and not empty
-  pub block-small : (1 ≤ blockIn x) × (blockIn x < 2 ^ 13)
+  pub block-small : (1 ≤ blockLengthIn x) × (blockLengthIn x < 2 ^ 13)
   unfolding blockLength
   block-small =
-      let b = block-bound (layoutIn x) stringLimit (length (x .map)) (length (lineIn x)) string-small in
-      let l : length (lineIn x) ≤ lineLimit = line-length (x .operator) (x .submission) in
+      let b = block-bound (layoutIn x) maxString (length (x .map)) (length (lineIn x)) string-small in
+      let l : length (lineIn x) ≤ maxLine = line-length (x .operator) (x .submission) in
       let c = count-small in
       omega (arith, b, good-map (x .map) (p .map) .short)
 
-  pub prepared : Prepared (boardIn x) (kernelIn x) (layoutIn x) (blockIn x)
+  pub prepared : Prepared (boardIn x) (kernelIn x) (layoutIn x) (blockLengthIn x)
   unfolding firstPairs
   prepared =
       record {
         checked = record { pairs = good-map (x .map) (p .map) .few; top = p .window };
-        segments = omega (arith, accepted-image (imageIn x) (p .image) .one);
+        segments = omega (arith, good-kernel (imageIn x) (p .image) .one);
         modules = count-small;
         bytes = λ i l.
             let h : i < moduleCount (x .submission) = omega (arith, layout-count (x .submission)) in
@@ -148,8 +148,8 @@ module _ (x : Lent) (p : Passed x) where
       }
 
 -- what the stages read, as their calls hand it over
-module _ (x : Lent) (r : Parsed) (m : ParsedMap) (i : List ℕ) (j : Judged)
-    (re : r ≡ parsed (x .submission)) (me : m ≡ parsedMap (x .map)) (ie : i ≡ bytesOf (x .submission) (r .layout .image)) (je : j ≡ judged i) where
+module _ (x : Lent) (r : ParsedSubmission) (m : ParsedMap) (i : List ℕ) (j : Judged)
+    (re : r ≡ parsedSubmission (x .submission)) (me : m ≡ parsedMap (x .map)) (ie : i ≡ bytesOf (x .submission) (r .layout .image)) (je : j ≡ judged i) where
   pub verdict-is : (o w v : Answer) → o ≡ firstOf (operatorChecks (x .operator)) Load → w ≡ firstOf (windowChecks (x .first) (x .size)) Load
       → v ≡ orElse (r .answer) (orElse o (orElse w (orElse (m .answer) (j .answer))))
       → v ≡ firstOf (lentChecks x) Load
@@ -160,23 +160,23 @@ module _ (x : Lent) (r : Parsed) (m : ParsedMap) (i : List ℕ) (j : Judged)
     layout-known = rw re (layout-read x (or-else-load _ _ (ap isLoad (sym (lent-chain x)) ∙ h) .0))
 
     pub map-known : m .map ≡ mapOf (x .map)
-    map-known = rw (me, ← parsed-good (x .map) (passed x h .map)) refl
+    map-known = rw (me, ← parsed-good (x .map) (lent-passed x h .map)) refl
 
     pub kernel-known : j .kernel ≡ kernelIn x
-    kernel-known = rw (je, ie, layout-known) (judged-load (imageIn x) (passed x h .image))
+    kernel-known = rw (je, ie, layout-known) (judged-load (imageIn x) (lent-passed x h .image))
 
 module _ (x : Lent) where
   pub decided-refused : (v : Answer) → v ≡ firstOf (lentChecks x) Load → isLoad v ≡ false → record { answer = v; plan = noPlan } ≡ decisionOf x
   unfolding decisionOf checks
   decided-refused v e h = rw e (stage-refuses (lentChecks x) _ _ (lent-refuses x) (rw e at h))
 
-  pub decided-on : isLoad (firstOf (lentChecks x) Load) ≡ true → memoryDecision (boardIn x) (kernelIn x) (layoutIn x) (blockIn x) ≡ decisionOf x
+  pub decided-on : isLoad (firstOf (lentChecks x) Load) ≡ true → memoryDecision (boardIn x) (kernelIn x) (layoutIn x) (blockLengthIn x) ≡ decisionOf x
   unfolding decisionOf checks
-  decided-on h = stage-passes (lentChecks x) (memoryChecks (boardIn x) (kernelIn x) (layoutIn x) (blockIn x)) _ (lent-refuses x) h
+  decided-on h = stage-passes (lentChecks x) (memoryChecks (boardIn x) (kernelIn x) (layoutIn x) (blockLengthIn x)) _ (lent-refuses x) h
 
 -- what the last stage is called with
-module _ (x : Lent) (b : Board) (k : Kernel) (l : Layout) (n : ℕ) (be : b ≡ boardIn x) (ke : k ≡ kernelIn x) (le : l ≡ layoutIn x) (ne : n ≡ blockIn x) where
-  pub prepared-is : Passed x → Prepared b k l n
+module _ (x : Lent) (b : Board) (k : Kernel) (l : Layout) (n : ℕ) (be : b ≡ boardIn x) (ke : k ≡ kernelIn x) (le : l ≡ layoutIn x) (ne : n ≡ blockLengthIn x) where
+  pub prepared-is : LentPassed x → Prepared b k l n
   prepared-is p =
       let q = prepared x p in
       record {
@@ -190,10 +190,10 @@ module _ (x : Lent) (b : Board) (k : Kernel) (l : Layout) (n : ℕ) (be : b ≡ 
   pub decision-is : isLoad (firstOf (lentChecks x) Load) ≡ true → memoryDecision b k l n ≡ decisionOf x
   decision-is h = rw (be, ke, le, ne) (decided-on x h)
 
-pub block-is : (x : Lent) (l : Layout) (line : List ℕ) (n : ℕ) → l ≡ layoutIn x → line ≡ lineIn x
+pub block-length-is : (x : Lent) (l : Layout) (line : List ℕ) (n : ℕ) → l ≡ layoutIn x → line ≡ lineIn x
     → n ≡ blockLength (stringLengths l (l .count)) (length (x .map)) (length line)
-    → n ≡ blockIn x
-block-is x l line n le ze e = rw (le, ze) at e
+    → n ≡ blockLengthIn x
+block-length-is x l line n le ze e = rw (le, ze) at e
 
 pub board-is : (x : Lent) (m : MemMap) (w : Span) → m ≡ mapOf (x .map) → w ≡ windowSpan (x .first) (x .size) → record { map = m; window = w } ≡ boardIn x
 board-is x m w me we = rw (me, we)

@@ -3,7 +3,7 @@
 --     layoutIn, imageIn, kernelIn     the submission's parts, its image, and the kernel in that
 --     lineIn                          the command line in force
 --     boardIn                         the memory map and the window
---     blockIn                         the length of the information block
+--     blockLengthIn                         the length of the information block
 -- Assumes nothing.
 use mathlib.Core.List.{List}
 use Prim.Native.Nat.{ℕ}
@@ -16,7 +16,7 @@ use Rattle.image.specs.Judged.{kernelOf}
 use Rattle.memory_map.specs.Pairs.{mapOf}
 use Rattle.board.specs.declared.Board.{Board}
 use Rattle.board.specs.Window.{windowSpan}
-use Rattle.information.specs.Information.{stringLengths, blockLength}
+use Rattle.block.specs.Block.{stringLengths, blockLength}
 
 -- what is lent for reading, and of the window its place alone
 pub record Lent : Type 0 where
@@ -41,5 +41,5 @@ lineIn x = commandLine (x .operator) (x .submission)
 abbrev pub boardIn : Lent → Board
 boardIn x = record { map = mapOf (x .map); window = windowSpan (x .first) (x .size) }
 
-abbrev pub blockIn : Lent → ℕ
-blockIn x = blockLength (stringLengths (layoutIn x) (layoutIn x .count)) (length (x .map)) (length (lineIn x))
+abbrev pub blockLengthIn : Lent → ℕ
+blockLengthIn x = blockLength (stringLengths (layoutIn x) (layoutIn x .count)) (length (x .map)) (length (lineIn x))

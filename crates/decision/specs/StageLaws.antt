@@ -10,13 +10,13 @@ use borrow.Author.Tests.{ltb-false, not-false}
 use lib.Dec.{ltb}
 use Rattle.laws.specs.Checks.{firstOf}
 use Rattle.answer.specs.Answer.{isLoad}
-use Rattle.answer.specs.Order.{refuses, check-passed, load-is}
+use Rattle.answer.specs.ChainLaws.{refuses, check-passed, load-is}
 use Rattle.answer.specs.declared.Answer.{Answer}
-use Rattle.answer.specs.declared.Answer.the-variants.{Load, KernelNotOpen, NoRoomForModule, NoRoomForInformation}
+use Rattle.answer.specs.declared.Answer.the-variants.{Load, KernelNotOpen, NoRoomForModule, NoRoomForBlock}
 use Rattle.submission.specs.declared.Layout.{Layout}
 use Rattle.image.specs.declared.Kernel.{Kernel}
 use Rattle.board.specs.declared.Board.{Board}
-use Rattle.board.specs.Open.{openAt}
+use Rattle.board.specs.Open.{isOpen}
 use Rattle.placement.specs.declared.Items.{Items}
 use Rattle.placement.specs.declared.Spans.{Spans}
 use Rattle.placement.specs.declared.Placed.{Placed}
@@ -48,12 +48,12 @@ pub all-placed : (done n : ℕ) → isLoad (firstOf (roomChecks done n) Load) �
 unfolding refuses roomChecks
 all-placed done n h =
     let a = check-passed (ltb done n) (NoRoomForModule done) _ refl (load-is (roomChecks done n) refl h) in
-    let b = check-passed (ltb done (n + 1)) NoRoomForInformation [] refl (a .1) in
+    let b = check-passed (ltb done (n + 1)) NoRoomForBlock [] refl (a .1) in
     ltb-false _ _ (b .0)
 
 module _ (b : Board) (k : Kernel) (l : Layout) (size : ℕ) where
   -- the items placed, as the calls hand them over
-  pub placed-is : (r : Placed) (t : Spans) (q : Items) → t ≡ extentsOf k → q ≡ itemsOf l (k .pages) size → r ≡ placeItems (openAt b) t q → r ≡ placedBy b k l size
+  pub placed-is : (r : Placed) (t : Spans) (q : Items) → t ≡ extentsOf k → q ≡ itemsOf l (k .pages) size → r ≡ placeItems (isOpen b) t q → r ≡ placedBy b k l size
   unfolding placedBy
   placed-is r t q e f g = rw (g, e, f)
 

@@ -12,7 +12,7 @@ pub mod place;
 // Where everything of a load lies, and what is handed over besides the entry; past the last module the spans are zero.
 pub struct Plan {
     pub kernel: Kernel,
-    pub modules: [Span; submission::MODULES],
+    pub modules: [Span; submission::MAX_MODULES],
     pub block: Span,
     pub eax: u32,
     pub ebx: u32,
@@ -36,7 +36,7 @@ pub fn decide<'a>(
 {
     let read = submission::parse(submission);
     let layout = read.layout;
-    let parsed = memory_map::parse::parse(map);
+    let parsed = memory_map::parse(map);
     let judged = image::judge(submission::bytes_of(submission, layout.image));
     let of_submission = read.answer;
     let of_operator = command_line::check_operator(operator);
@@ -48,7 +48,7 @@ pub fn decide<'a>(
         return place::refuse(verdict);
     }
     let line = command_line::in_force(operator, submission);
-    let length = information::size::block_length(layout, map.len(), line.len());
+    let length = block::size::block_length(layout, map.len(), line.len());
     let map = parsed.map;
     let window = board::window::window_span(first, size);
     let kernel = judged.kernel;

@@ -11,10 +11,11 @@ use submission::Layout;
 ghost use mathlib.Core.Path.{_≡_};
 ghost use Prim.Native.Nat.{_+_, _≤_, _<_, _^_};
 ghost use Rattle.laws.specs.Checks.{firstOf};
-ghost use Rattle.submission.specs.Format.{moduleLimit};
+ghost use Rattle.submission.specs.Format.{maxModules};
 ghost use Rattle.board.specs.Open.{Checked};
-ghost use Rattle.placement.specs.Free.{maxSpans, spanAt};
-ghost use Rattle.image.specs.Judged.{segmentLimit};
+ghost use Rattle.address.specs.Address.{spanNo};
+ghost use Rattle.placement.specs.Free.{maxSpans};
+ghost use Rattle.image.specs.Judged.{maxSegments};
 ghost use Rattle.decision.specs.PlacedLaws.{Prepared};
 ghost use Rattle.decision.specs.Decided.{kernelOpen, roomChecks, planOf, noPlan, memoryDecision};
 
@@ -23,7 +24,7 @@ const BOOT_MAGIC: u32 = 0x2BADB002;
 
 // Whether every address of the kernel's extents is open.
 fn kernel_open(board: Board, kernel: Kernel) -> bool
-    requires { ⌜ Checked board × (kernel .count ≤ segmentLimit) ⌝ }
+    requires { ⌜ Checked board × (kernel .count ≤ maxSegments) ⌝ }
     ensures { λ r. ⌜ r ≡ kernelOpen board kernel ⌝ }
 {
     let mut i = 0;
@@ -38,21 +39,21 @@ fn kernel_open(board: Board, kernel: Kernel) -> bool
 
 // The answer where `done` of n modules and the information block found room.
 fn check_room(done: usize, n: usize) -> Answer
-    requires { ⌜ n ≤ moduleLimit ⌝ }
+    requires { ⌜ n ≤ maxModules ⌝ }
     ensures { λ r. ⌜ r ≡ firstOf (roomChecks done n) Answer.Load ⌝ }
 {
     if done < n {
         return Answer::NoRoomForModule(done as u32);
     }
     if done <= n {
-        return Answer::NoRoomForInformation;
+        return Answer::NoRoomForBlock;
     }
     Answer::Load
 }
 
 // The plan of n modules and the information block, placed behind the kernel's extents.
 fn plan_of(kernel: Kernel, spans: Spans, n: usize) -> Plan
-    requires { ⌜ (n ≤ moduleLimit) × (kernel .count + n < maxSpans) × (spanAt spans (kernel .count + n) .start .0 < 2 ^ 32) ⌝ }
+    requires { ⌜ (n ≤ maxModules) × (kernel .count + n < maxSpans) × (spanNo (spans .list) (kernel .count + n) .start .0 < 2 ^ 32) ⌝ }
     ensures { λ r. ⌜ r ≡ planOf kernel spans n ⌝ }
 {
     let at = kernel.count + n;
@@ -74,7 +75,7 @@ pub fn refuse(a: Answer) -> Decision
         answer: a,
         plan: Plan {
             kernel: image::no_kernel(),
-            modules: [Span::none(); submission::MODULES],
+            modules: [Span::none(); submission::MAX_MODULES],
             block: Span::none(),
             eax: 0,
             ebx: 0,

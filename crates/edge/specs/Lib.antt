@@ -1,4 +1,4 @@
 -- The definitions that the contracts of `edge` cite, and their laws.
 pub mod Edge
 pub mod EdgeLaws
-pub mod Passed
+pub mod PassLaws

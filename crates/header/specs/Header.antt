@@ -1,5 +1,5 @@
 -- The Multiboot header of an image.                                                    rule: HEADER
---     magic, searched, headerLength    the numbers of the rule
+--     magic, searchLimit, shortHeader    the numbers of the rule
 --     words                            the numbers that bytes make, four by four
 --     isHeader, headerFrom, header     the search, word by word from the front
 -- Its answer in propositions is in HeaderLaws.
@@ -18,12 +18,12 @@ abbrev pub magic : ℕ
 magic = 0x1BADB002
 
 -- it lies wholly in so many bytes from the image's start
-abbrev pub searched : ℕ
-searched = 8192
+abbrev pub searchLimit : ℕ
+searchLimit = 8192
 
 -- magic, flags and checksum
-abbrev pub headerLength : ℕ
-headerLength = 12
+abbrev pub shortHeader : ℕ
+shortHeader = 12
 
 -- the numbers that a list's bytes make, four by four; what is left of fewer than four is no number
 unfoldable pub words : List ℕ → List ℕ
@@ -44,6 +44,6 @@ headerFrom at (m ∷ []) = Nothing
 headerFrom at (m ∷ f ∷ []) = Nothing
 headerFrom at (m ∷ f ∷ c ∷ ws) = let r = headerFrom (at + 4) (f ∷ c ∷ ws) in cond (isHeader m f c) (At (record { 0 = at })) r
 
--- the header of an image: the lowest in its searched part
+-- the header of an image: the lowest in its searchLimit part
 unfoldable pub header : List ℕ → Search
-header image = headerFrom 0 (words (take searched image))
+header image = headerFrom 0 (words (take searchLimit image))

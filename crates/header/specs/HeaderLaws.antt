@@ -21,15 +21,15 @@ use Rattle.number.specs.NumberLaws.{number-take}
 use Rattle.address.specs.declared.ImageOffset.{ImageOffset}
 use Rattle.header.specs.declared.Search.{Search}
 use Rattle.header.specs.declared.Search.the-variants.{At, Nothing}
-use Rattle.header.specs.Header.{magic, searched, headerLength, words, isHeader, headerFrom, header}
+use Rattle.header.specs.Header.{magic, searchLimit, shortHeader, words, isHeader, headerFrom, header}
 use Rattle.header.specs.WalkLaws.{found-at, passed-at, none-left}
 
--- a header stands at the offset o: a multiple of 4, with 12 bytes inside both the image and its searched part, the magic,
+-- a header stands at the offset o: a multiple of 4, with 12 bytes inside both the image and its searchLimit part, the magic,
 -- and a sum of magic, flags and checksum that is 0 modulo 2^32
 pub record HeaderAt (image : List ℕ) (o : ℕ) : Type 0 where
   pub multiple : o % 4 ≡ 0
-  pub whole : o + headerLength ≤ length image
-  pub early : o + headerLength ≤ searched
+  pub whole : o + shortHeader ≤ length image
+  pub early : o + shortHeader ≤ searchLimit
   pub marked : numberAt 4 image o ≡ magic
   pub sum : (numberAt 4 image o + numberAt 4 image (o + 4) + numberAt 4 image (o + 8)) % 2 ^ 32 ≡ 0
 
@@ -46,8 +46,8 @@ test s at = isHeader (numberAt 4 s at) (numberAt 4 s (at + 4)) (numberAt 4 s (at
 
 -- what the search from the offset `at` on says of the places four bytes apart
 abbrev Says : List ℕ → ℕ → Search → Type 0
-Says s at Nothing = (i : ℕ) → at + 4 * i + headerLength ≤ length s → test s (at + 4 * i) ≡ false
-Says s at (At o) = (i : ℕ) × (o .0 ≡ at + 4 * i) × (o .0 + headerLength ≤ length s) × (test s (o .0) ≡ true) × ((j : ℕ) → j < i → test s (at + 4 * j) ≡ false)
+Says s at Nothing = (i : ℕ) → at + 4 * i + shortHeader ≤ length s → test s (at + 4 * i) ≡ false
+Says s at (At o) = (i : ℕ) × (o .0 ≡ at + 4 * i) × (o .0 + shortHeader ≤ length s) × (test s (o .0) ≡ true) × ((j : ℕ) → j < i → test s (at + 4 * j) ≡ false)
 
 module _ (s : List ℕ) where
   -- the place `at`, or a later one
@@ -59,7 +59,7 @@ module _ (s : List ℕ) where
   after at e Nothing h = λ i l. each at i e (λ j q. h j (omega arith))
   after at e (At o) h = (suc (h .0), omega arith, h .2, h .3, λ i l. each at i e (λ j q. h .4 j (omega arith)))
 
-  short : (at : ℕ) → length s < at + headerLength → Says s at (headerFrom at (words (drop at s)))
+  short : (at : ℕ) → length s < at + shortHeader → Says s at (headerFrom at (words (drop at s)))
   short at l =
       let e : headerFrom at (words (drop at s)) ≡ Nothing = none-left at (drop at s) (simp length-drop (omega arith)) in
       rw e (λ i m. absurd (omega arith))
@@ -74,7 +74,7 @@ module _ (s : List ℕ) where
       (λ t. rw (found-at at s m t) (0, omega arith, m, t, λ j z. absurd (omega arith)))
       (λ t. rw (passed-at at s m t) (after at t (headerFrom (at + 4) (words (drop (at + 4) s))) (walk k (at + 4) (omega arith))))
       (true-or-false (test s at)))
-      (lt-or-le (length s) (at + headerLength))
+      (lt-or-le (length s) (at + shortHeader))
 
 drop-take : (at n : ℕ) (s : List ℕ) → drop at (take (at + n) s) ≡ take n (drop at s)
 drop-take zero n s = rw zero-add
@@ -88,10 +88,10 @@ word-take n s at l =
     rw (e, drop-take at (n - at) s) (number-take 4 (n - at) (drop at s) (omega arith))
 
 module _ (s : List ℕ) where
-  test-searched : (at : ℕ) → at + headerLength ≤ searched → test (take searched s) at ≡ test s at
-  test-searched at l = rw (word-take searched s at (omega arith), word-take searched s (at + 4) (omega arith), word-take searched s (at + 8) (omega arith))
+  test-searched : (at : ℕ) → at + shortHeader ≤ searchLimit → test (take searchLimit s) at ≡ test s at
+  test-searched at l = rw (word-take searchLimit s at (omega arith), word-take searchLimit s (at + 4) (omega arith), word-take searchLimit s (at + 8) (omega arith))
 
-  from-test : (o : ℕ) → test s o ≡ true → o % 4 ≡ 0 → o + headerLength ≤ length s → o + headerLength ≤ searched → HeaderAt s o
+  from-test : (o : ℕ) → test s o ≡ true → o % 4 ≡ 0 → o + shortHeader ≤ length s → o + shortHeader ≤ searchLimit → HeaderAt s o
   from-test o t m w e = let f = is-header _ _ _ t in record { multiple = m; whole = w; early = e; marked = f .0; sum = f .1 }
 
   to-test : (o : ℕ) → HeaderAt s o → test s o ≡ true
@@ -104,17 +104,17 @@ module _ (s : List ℕ) where
   Answers (At o) = HeaderAt s (o .0) × ((p : ℕ) → p < o .0 → HeaderAt s p → ⊥)
 
   -- a header stands at a place of the search, and passes its test there
-  placed : (p : ℕ) → HeaderAt s p → test (take searched s) (0 + 4 * (p / 4)) ≡ true
+  placed : (p : ℕ) → HeaderAt s p → test (take searchLimit s) (0 + 4 * (p / 4)) ≡ true
   placed p a =
       let q : 0 + 4 * (p / 4) ≡ p = omega (arith, a .multiple) in
       rw (q, test-searched p (a .early)) (to-test p a)
 
-  -- what the search over the searched part says of the image
-  told : (r : Search) → Says (take searched s) 0 r → Answers r
+  -- what the search over the searchLimit part says of the image
+  told : (r : Search) → Says (take searchLimit s) 0 r → Answers r
   told Nothing h = λ p a. false≢true (sym (h (p / 4) (simp length-take (omega (arith, a .multiple, a .whole, a .early)))) ∙ placed p a)
   told (At o) h =
       let e : o .0 ≡ 0 + 4 * h .0 = h .1 in
-      let l : o .0 + headerLength ≤ min searched (length s) = simp length-take at (h .2) in
+      let l : o .0 + shortHeader ≤ min searchLimit (length s) = simp length-take at (h .2) in
       let t : test s (o .0) ≡ true = sym (test-searched (o .0) (omega arith)) ∙ h .3 in (
         from-test (o .0) t (omega arith) (omega arith) (omega arith),
         λ p m a. false≢true (sym (h .4 (p / 4) (omega (arith, a .multiple))) ∙ placed p a),
@@ -122,7 +122,7 @@ module _ (s : List ℕ) where
 
   pub answers : Answers (header s)
   unfolding header
-  answers = told (headerFrom 0 (words (take searched s))) (walk (take searched s) (length s) 0 (simp length-take (omega arith)))
+  answers = told (headerFrom 0 (words (take searchLimit s))) (walk (take searchLimit s) (length s) 0 (simp length-take (omega arith)))
 
 -- a header that was found is the lowest
 pub header-lowest : (s : List ℕ) (o : ImageOffset) → header s ≡ At o → HeaderAt s (o .0) × ((p : ℕ) → p < o .0 → HeaderAt s p → ⊥)

@@ -1,6 +1,6 @@
 -- Laws of the header search, step by step.
 --     found-at, passed-at, none-left      a header at a place, none there, and too few bytes left
---     whole-image, first-part             the part that is searched
+--     whole-image, first-part             the part that is searchLimit
 --     other-magic, by-sum                 the test of three words
 -- Assumes nothing.
 use mathlib.Core.Path.{_≡_, refl, ap, sym}
@@ -14,7 +14,7 @@ use lib.Seq.{drop-drop, take-all}
 use borrow.Author.Tests.{eq-eqb, ne-eqb}
 use Rattle.number.specs.Number.{number, numberAt}
 use Rattle.header.specs.declared.Search.the-variants.{At, Nothing}
-use Rattle.header.specs.Header.{magic, searched, headerLength, words, isHeader, headerFrom, header}
+use Rattle.header.specs.Header.{magic, searchLimit, shortHeader, words, isHeader, headerFrom, header}
 
 words-cons : (s : List ℕ) → 4 ≤ length s → words s ≡ number 4 s ∷ words (drop 4 s)
 unfolding words number
@@ -24,14 +24,14 @@ words-cons (a ∷ b ∷ []) h = absurd (omega arith)
 words-cons (a ∷ b ∷ c ∷ []) h = absurd (omega arith)
 words-cons (a ∷ b ∷ c ∷ d ∷ s) h = refl
 
-words-two : (s : List ℕ) → headerLength ≤ length s → words (drop 4 s) ≡ number 4 (drop 4 s) ∷ number 4 (drop 8 s) ∷ words (drop 12 s)
+words-two : (s : List ℕ) → shortHeader ≤ length s → words (drop 4 s) ≡ number 4 (drop 4 s) ∷ number 4 (drop 8 s) ∷ words (drop 12 s)
 words-two s h =
     let h4 : 4 ≤ length (drop 4 s) = simp length-drop (omega arith) in
     let h8 : 4 ≤ length (drop 8 s) = simp length-drop (omega arith) in
     rw (words-cons (drop 4 s), drop-drop 4 4 s, words-cons (drop 8 s), drop-drop 4 8 s)
 
 -- 12 bytes are three words
-words-three : (s : List ℕ) → headerLength ≤ length s → words s ≡ number 4 s ∷ number 4 (drop 4 s) ∷ number 4 (drop 8 s) ∷ words (drop 12 s)
+words-three : (s : List ℕ) → shortHeader ≤ length s → words s ≡ number 4 s ∷ number 4 (drop 4 s) ∷ number 4 (drop 8 s) ∷ words (drop 12 s)
 words-three s h = rw (words-cons s (omega arith)) (ap (λ (l : List ℕ). number 4 s ∷ l) (words-two s h))
 
 header-here : (at m f k : ℕ) (ws : List ℕ) → isHeader m f k ≡ true → headerFrom at (m ∷ f ∷ k ∷ ws) ≡ At (record { 0 = at })
@@ -42,14 +42,14 @@ header-on : (at m f k : ℕ) (ws : List ℕ) → isHeader m f k ≡ false → he
 unfolding headerFrom
 header-on at m f k ws e = rw e
 
-module _ (at : ℕ) (s : List ℕ) (h : headerLength ≤ length s) where
+module _ (at : ℕ) (s : List ℕ) (h : shortHeader ≤ length s) where
   found-here : isHeader (number 4 s) (number 4 (drop 4 s)) (number 4 (drop 8 s)) ≡ true → headerFrom at (words s) ≡ At (record { 0 = at })
   found-here e = rw (words-three s h) (header-here at _ _ _ _ e)
 
   passed : isHeader (number 4 s) (number 4 (drop 4 s)) (number 4 (drop 8 s)) ≡ false → headerFrom at (words s) ≡ headerFrom (at + 4) (words (drop 4 s))
   passed e = rw (words-three s h, words-two s h) (header-on at _ _ _ _ e)
 
-module _ (at : ℕ) (s : List ℕ) (h : at + headerLength ≤ length s) where
+module _ (at : ℕ) (s : List ℕ) (h : at + shortHeader ≤ length s) where
   -- a header at a place is found there
   pub found-at : isHeader (numberAt 4 s at) (numberAt 4 s (at + 4)) (numberAt 4 s (at + 8)) ≡ true → headerFrom at (words (drop at s)) ≡ At (record { 0 = at })
   found-at e = found-here at (drop at s) (simp length-drop (omega arith)) (simp drop-drop e)
@@ -74,15 +74,15 @@ too-few at (m ∷ f ∷ []) h = refl
 too-few at (m ∷ f ∷ k ∷ ws) h = absurd (omega arith)
 
 -- fewer than 12 bytes hold no header
-pub none-left : (at : ℕ) (s : List ℕ) → length s < headerLength → headerFrom at (words s) ≡ Nothing
+pub none-left : (at : ℕ) (s : List ℕ) → length s < shortHeader → headerFrom at (words s) ≡ Nothing
 none-left at s h = too-few at (words s) (omega (arith, length-words s))
 
--- an image that is no longer than the searched part is searched whole
-pub whole-image : (s : List ℕ) → length s ≤ searched → headerFrom 0 (words s) ≡ header s
+-- an image that is no longer than the searchLimit part is searchLimit whole
+pub whole-image : (s : List ℕ) → length s ≤ searchLimit → headerFrom 0 (words s) ≡ header s
 unfolding header
-whole-image s h = ap (λ (l : List ℕ). headerFrom 0 (words l)) (sym (take-all searched s h))
+whole-image s h = ap (λ (l : List ℕ). headerFrom 0 (words l)) (sym (take-all searchLimit s h))
 
-pub first-part : (s : List ℕ) → headerFrom 0 (words (take searched s)) ≡ header s
+pub first-part : (s : List ℕ) → headerFrom 0 (words (take searchLimit s)) ≡ header s
 unfolding header
 first-part s = refl
 

@@ -4,19 +4,19 @@ ghost use mathlib.Core.Path.{_≡_};
 ghost use Prim.Native.Nat.{_+_, _≤_};
 ghost use lib.ListN.{length};
 ghost use Rattle.number.specs.Number.{numberAt};
-ghost use Rattle.header.specs.Header.{headerLength, words, isHeader, headerFrom, header};
+ghost use Rattle.header.specs.Header.{shortHeader, words, isHeader, headerFrom, header};
 
 // A header begins with this number.
 const MAGIC: u32 = 0x1BADB002;
 
 // A header lies wholly in so many bytes from the image's start.
-pub const SEARCHED: usize = 8192;
+pub const SEARCH_LIMIT: usize = 8192;
 
 // A header stands at a multiple of this offset.
 const STEP: usize = 4;
 
 // Magic, flags and checksum.
-const HEADER_LENGTH: usize = 12;
+const SHORT_HEADER: usize = 12;
 
 // What the search for a header finds.
 pub enum Search {
@@ -26,7 +26,7 @@ pub enum Search {
 
 // Whether a header's magic, flags and checksum stand at the offset `at`.
 fn is_header(s: &[u8], at: usize) -> bool
-    requires { ⌜ at + headerLength ≤ length (now s) ⌝ }
+    requires { ⌜ at + shortHeader ≤ length (now s) ⌝ }
     ensures { λ r. ⌜ r ≡ isHeader (numberAt 4 (now (s .entry)) at) (numberAt 4 (now (s .entry)) (at + 4)) (numberAt 4 (now (s .entry)) (at + 8)) ⌝ }
 {
     let magic = number::read_u32(s, at);
@@ -44,7 +44,7 @@ fn first_header(s: &[u8]) -> Search
     ensures { λ r. ⌜ r ≡ headerFrom 0 (words (now (s .entry))) ⌝ }
 {
     let mut at = 0;
-    while HEADER_LENGTH <= s.len() - at {
+    while SHORT_HEADER <= s.len() - at {
         if is_header(s, at) {
             return Search::At(ImageOffset(at));
         }
@@ -57,9 +57,9 @@ fn first_header(s: &[u8]) -> Search
 pub fn find_header(image: &[u8]) -> Search
     ensures { λ r. ⌜ r ≡ header (now (image .entry)) ⌝ }
 {
-    if image.len() <= SEARCHED {
+    if image.len() <= SEARCH_LIMIT {
         first_header(image)
     } else {
-        first_header(&image[..SEARCHED])
+        first_header(&image[..SEARCH_LIMIT])
     }
 }

@@ -1,3 +1,3 @@
 -- What the proofs of several functions cite.
-pub mod Tests
-pub mod Refusals
+pub mod TestLaws
+pub mod RefusalLaws

@@ -6,9 +6,9 @@
 --                                            what an image's header says
 --     headerChecks, loadChecks               the checks on the header, 6 to 10, and on the load, 11 to 14
 --     imageChecks                            both, in order
---     segmentLimit, noSegment, noKernel      the most segments, and zeros
+--     maxSegments, noSegment, noKernel      the most segments, and zeros
 --     segmentNo                              the segment of an index
---     segmentAt, kernelAt, kernelOf          the kernel that an image asks for
+--     segmentFor, kernelFor, kernelOf          the kernel that an image asks for
 --     refused, withKernel, judged            the answer, and the kernel beside it
 -- Assumes nothing.
 use mathlib.Core.Bool.{Bool, true, false, cond, not, _&&_, _||_}
@@ -22,12 +22,12 @@ use Rattle.answer.specs.declared.Answer.{Answer}
 use Rattle.answer.specs.declared.Answer.the-variants.{Load, NoHeader, UnknownRequest, NoAddressFields, HeaderCutOff, LoadBeforeImage, NothingToLoad, LoadPastImage, BssBelowLoadEnd, EntryOutsideLoad}
 use Rattle.header.specs.declared.Search.{Search}
 use Rattle.header.specs.declared.Search.the-variants.{At, Nothing}
-use Rattle.image.specs.declared.load.Fields.{Fields}
+use Rattle.image.specs.declared.load.AddressFields.{AddressFields}
 use Rattle.image.specs.declared.Segment.{Segment}
 use Rattle.image.specs.declared.Kernel.{Kernel}
 use Rattle.image.specs.declared.Judged.{Judged}
-use Rattle.header.specs.Header.{searched, header}
-use Rattle.image.specs.Load.{flagsAt, fieldsAt, onPages, wholeLength, loadOffset, loadLength, loadEnd, extentEnd}
+use Rattle.header.specs.Header.{searchLimit, header}
+use Rattle.image.specs.Load.{flagsAt, fieldsAt, onPages, fullHeader, loadOffset, loadLength, loadEnd, extentEnd}
 
 -- 6: no header
 abbrev pub noHeader : Search → Bool
@@ -49,27 +49,27 @@ noAddresses flags = eqb (flags / 2 ^ 16 % 2) 0
 
 -- 9: header offset + 32 beyond 8,192 or beyond the image
 abbrev pub cutOff : ℕ → ℕ → Bool
-cutOff o n = ltb searched (o + wholeLength) || ltb n (o + wholeLength)
+cutOff o n = ltb searchLimit (o + fullHeader) || ltb n (o + fullHeader)
 
 -- 10: load_addr above header_addr, or header_addr − load_addr above the header's offset
-abbrev pub beforeImage : Fields → ℕ → Bool
-beforeImage h o = ltb (h .header .0) (h .load .0) || ltb o (h .header .0 - h .load .0)
+abbrev pub beforeImage : AddressFields → ℕ → Bool
+beforeImage h o = ltb (h .«header_addr» .0) (h .«load_addr» .0) || ltb o (h .«header_addr» .0 - h .«load_addr» .0)
 
 -- 11: load_end_addr zero and no image byte left from the load offset on
-abbrev pub nothingLeft : Fields → ℕ → ℕ → Bool
-nothingLeft h offset n = eqb (h .end .0) 0 && leb n offset
+abbrev pub nothingLeft : AddressFields → ℕ → ℕ → Bool
+nothingLeft h offset n = eqb (h .«load_end_addr» .0) 0 && leb n offset
 
 -- 12: load_end_addr nonzero and below load_addr, or load offset + load length beyond the image
-abbrev pub pastImage : Fields → ℕ → ℕ → ℕ → Bool
-pastImage h offset len n = not (eqb (h .end .0) 0) && ltb (h .end .0) (h .load .0) || ltb n (offset + len)
+abbrev pub pastImage : AddressFields → ℕ → ℕ → ℕ → Bool
+pastImage h offset len n = not (eqb (h .«load_end_addr» .0) 0) && ltb (h .«load_end_addr» .0) (h .«load_addr» .0) || ltb n (offset + len)
 
 -- 13: bss_end_addr nonzero and below the load end e
-abbrev pub bssBelow : Fields → ℕ → Bool
-bssBelow h e = not (eqb (h .bss .0) 0) && ltb (h .bss .0) e
+abbrev pub bssBelow : AddressFields → ℕ → Bool
+bssBelow h e = not (eqb (h .«bss_end_addr» .0) 0) && ltb (h .«bss_end_addr» .0) e
 
 -- 14: entry_addr below load_addr or not below the load end e
-abbrev pub entryOutside : Fields → ℕ → Bool
-entryOutside h e = ltb (h .entry .0) (h .load .0) || leb e (h .entry .0)
+abbrev pub entryOutside : AddressFields → ℕ → Bool
+entryOutside h e = ltb (h .«entry_addr» .0) (h .«load_addr» .0) || leb e (h .«entry_addr» .0)
 
 -- of an image: where its header stands, what that says, and which of the image's bytes are loaded
 abbrev pub headerOffset : List ℕ → ℕ
@@ -78,7 +78,7 @@ headerOffset image = offsetOf (header image)
 abbrev pub headerFlags : List ℕ → ℕ
 headerFlags image = flagsAt image (headerOffset image)
 
-abbrev pub headerFields : List ℕ → Fields
+abbrev pub headerFields : List ℕ → AddressFields
 headerFields image = fieldsAt image (headerOffset image)
 
 abbrev pub firstLoaded : List ℕ → ℕ
@@ -98,7 +98,7 @@ headerChecks image =
     ∷ []
 
 -- the checks on the load of `len` bytes from `offset` on, of an image of n bytes
-unfoldable pub loadChecks : Fields → ℕ → ℕ → ℕ → List (Check Answer)
+unfoldable pub loadChecks : AddressFields → ℕ → ℕ → ℕ → List (Check Answer)
 loadChecks h offset len n =
     nothingLeft h offset n gives NothingToLoad
     ∷ pastImage h offset len n gives LoadPastImage
@@ -111,31 +111,31 @@ unfoldable pub imageChecks : List ℕ → List (Check Answer)
 imageChecks image = headerChecks image ++ loadChecks (headerFields image) (firstLoaded image) (countLoaded image) (length image)
 
 -- at most so many segments
-abbrev pub segmentLimit : ℕ
-segmentLimit = 16
+abbrev pub maxSegments : ℕ
+maxSegments = 16
 
 abbrev pub noSegment : Segment
-noSegment = record { start = record { 0 = 0 }; loaded = record { 0 = 0 }; end = record { 0 = 0 }; offset = record { 0 = 0 } }
+noSegment = record { start = record { 0 = 0 }; «load_end» = record { 0 = 0 }; «extent_end» = record { 0 = 0 }; offset = record { 0 = 0 } }
 
 abbrev pub noKernel : Kernel
-noKernel = record { header = record { 0 = 0 }; pages = false; entry = record { 0 = 0 }; segments = replicate segmentLimit noSegment; count = 0 }
+noKernel = record { header = record { 0 = 0 }; pages = false; entry = record { 0 = 0 }; segments = replicate maxSegments noSegment; count = 0 }
 
 abbrev pub segmentNo : Kernel → ℕ → Segment
 segmentNo k i = getD (k .segments) i noSegment
 
 -- the segment of `len` bytes from `offset` on: from load_addr to the load end, and the bss behind it
-abbrev pub segmentAt : Fields → ℕ → ℕ → Segment
-segmentAt h offset len =
-    record { start = h .load; loaded = record { 0 = loadEnd h len }; end = record { 0 = extentEnd h len }; offset = record { 0 = offset } }
+abbrev pub segmentFor : AddressFields → ℕ → ℕ → Segment
+segmentFor h offset len =
+    record { start = h .«load_addr»; «load_end» = record { 0 = loadEnd h len }; «extent_end» = record { 0 = extentEnd h len }; offset = record { 0 = offset } }
 
 -- the kernel of a header at o: one segment
-unfoldable pub kernelAt : Fields → Bool → ℕ → ℕ → ℕ → Kernel
-kernelAt h pages o offset len =
-    record { header = record { 0 = o }; pages = pages; entry = h .entry; segments = segmentAt h offset len ∷ replicate (segmentLimit - 1) noSegment; count = 1 }
+unfoldable pub kernelFor : AddressFields → Bool → ℕ → ℕ → ℕ → Kernel
+kernelFor h pages o offset len =
+    record { header = record { 0 = o }; pages = pages; entry = h .«entry_addr»; segments = segmentFor h offset len ∷ replicate (maxSegments - 1) noSegment; count = 1 }
 
 -- the kernel that an image asks for
 unfoldable pub kernelOf : List ℕ → Kernel
-kernelOf image = kernelAt (headerFields image) (onPages (headerFlags image)) (headerOffset image) (firstLoaded image) (countLoaded image)
+kernelOf image = kernelFor (headerFields image) (onPages (headerFlags image)) (headerOffset image) (firstLoaded image) (countLoaded image)
 
 -- a refusal comes with zeros
 abbrev pub refused : Answer → Judged

@@ -2,11 +2,11 @@
 --     judged-answer, judged-load                    the parts of the answer for an image
 --     image-refuses                                 the checks on it refuse
 --     high-bits                                     flag bits that are ignored
---     Passed, passed, not-cut-off                   no check applies
+--     ImagePassed, image-passed, not-cut-off                   no check applies
 --     segment                                       the kernel's one segment
---     Accepted, accepted                            where its header, its load bytes and its entry lie
+--     GoodKernel, good-kernel                            where its header, its load bytes and its entry lie
 --     Calculated, calculated                        its addresses, by the numbers in the header
---     Small, small                                  how large its addresses are
+--     KernelSmall, kernel-small                                  how large its addresses are
 -- Assumes nothing.
 use mathlib.Core.Path.{_≡_, refl, ap, sym}
 use mathlib.Core.Bool.{true, false, not, _&&_, false≢true}
@@ -21,23 +21,23 @@ use Rattle.laws.specs.TestLaws.{or-none-left, or-none-right}
 use Rattle.number.specs.Number.{numberAt}
 use Rattle.number.specs.NumberLaws.{Bytes, bytes-drop, number-bound}
 use Rattle.laws.specs.TableLaws.{replicate-at}
-use Rattle.answer.specs.Order.{refuses, check-passed}
+use Rattle.answer.specs.ChainLaws.{refuses, check-passed}
 use Rattle.answer.specs.declared.Answer.the-variants.{Load, NoHeader, UnknownRequest, NoAddressFields, HeaderCutOff, LoadBeforeImage, NothingToLoad, LoadPastImage, BssBelowLoadEnd, EntryOutsideLoad}
 use Rattle.header.specs.declared.Search.{Search}
 use Rattle.header.specs.declared.Search.the-variants.{At, Nothing}
-use Rattle.image.specs.declared.load.Fields.{Fields}
+use Rattle.image.specs.declared.load.AddressFields.{AddressFields}
 use Rattle.image.specs.declared.Segment.{Segment}
 use Rattle.image.specs.declared.Kernel.{Kernel}
-use Rattle.header.specs.Header.{searched, header}
-use Rattle.image.specs.Load.{flagsAt, fieldsAt, wholeLength, onPages, loadLength, loadEnd}
-use Rattle.image.specs.Judged.{noHeader, offsetOf, headerOffset, headerFlags, headerFields, firstLoaded, countLoaded, unknownRequest, noAddresses, cutOff, beforeImage, nothingLeft, pastImage, bssBelow, entryOutside, headerChecks, loadChecks, imageChecks, noSegment, segmentNo, kernelAt, kernelOf, withKernel, judged}
+use Rattle.header.specs.Header.{searchLimit, header}
+use Rattle.image.specs.Load.{flagsAt, fieldsAt, fullHeader, onPages, loadLength, loadEnd}
+use Rattle.image.specs.Judged.{noHeader, offsetOf, headerOffset, headerFlags, headerFields, firstLoaded, countLoaded, unknownRequest, noAddresses, cutOff, beforeImage, nothingLeft, pastImage, bssBelow, entryOutside, headerChecks, loadChecks, imageChecks, noSegment, segmentNo, kernelFor, kernelOf, withKernel, judged}
 
 module _ (image : List ℕ) where
   pub judged-answer : judged image .answer ≡ firstOf (imageChecks image) Load
   unfolding judged withKernel
   judged-answer = refl
 
-  -- an accepted image comes with its kernel
+  -- an good-kernel image comes with its kernel
   pub judged-load : firstOf (imageChecks image) Load ≡ Load → judged image .kernel ≡ kernelOf image
   unfolding judged withKernel
   judged-load e = rw e
@@ -55,16 +55,16 @@ high-bits f k =
     (ap (λ (n : ℕ). not (eqb n 0)) a, ap (λ (n : ℕ). eqb n 0) b, ap (λ (n : ℕ). not (eqb n 0)) c)
 
 -- no check applies to the image
-pub record Passed (image : List ℕ) : Type 0 where
+pub record ImagePassed (image : List ℕ) : Type 0 where
   pub found : noHeader (header image) ≡ false
   pub whole : cutOff (headerOffset image) (length image) ≡ false
   pub after : beforeImage (headerFields image) (headerOffset image) ≡ false
   pub within : pastImage (headerFields image) (firstLoaded image) (countLoaded image) (length image) ≡ false
   pub entered : entryOutside (headerFields image) (loadEnd (headerFields image) (countLoaded image)) ≡ false
 
-pub passed : (image : List ℕ) → firstOf (imageChecks image) Load ≡ Load → Passed image
+pub image-passed : (image : List ℕ) → firstOf (imageChecks image) Load ≡ Load → ImagePassed image
 unfolding imageChecks headerChecks loadChecks
-passed image e =
+image-passed image e =
     let h = headerFields image in
     let end = loadEnd h (countLoaded image) in
     let r6 = check-passed (noHeader (header image)) NoHeader _ refl e in
@@ -83,60 +83,60 @@ there : (r : Search) → noHeader r ≡ false → r ≡ At (record { 0 = offsetO
 there Nothing e = absurd (false≢true (sym e))
 there (At o) e = refl
 
-pub not-cut-off : (o n : ℕ) → cutOff o n ≡ false → (o + wholeLength ≤ searched) × (o + wholeLength ≤ n)
+pub not-cut-off : (o n : ℕ) → cutOff o n ≡ false → (o + fullHeader ≤ searchLimit) × (o + fullHeader ≤ n)
 not-cut-off o n e =
-    let p = ltb searched (o + wholeLength) in
-    let q = ltb n (o + wholeLength) in
+    let p = ltb searchLimit (o + fullHeader) in
+    let q = ltb n (o + fullHeader) in
     (ltb-false _ _ (or-none-left p q e), ltb-false _ _ (or-none-right p q e))
 
-not-before : (h : Fields) (o : ℕ) → beforeImage h o ≡ false → (h .load .0 ≤ h .header .0) × (h .header .0 - h .load .0 ≤ o)
+not-before : (h : AddressFields) (o : ℕ) → beforeImage h o ≡ false → (h .«load_addr» .0 ≤ h .«header_addr» .0) × (h .«header_addr» .0 - h .«load_addr» .0 ≤ o)
 not-before h o e =
-    let p = ltb (h .header .0) (h .load .0) in
-    let q = ltb o (h .header .0 - h .load .0) in
+    let p = ltb (h .«header_addr» .0) (h .«load_addr» .0) in
+    let q = ltb o (h .«header_addr» .0 - h .«load_addr» .0) in
     (ltb-false _ _ (or-none-left p q e), ltb-false _ _ (or-none-right p q e))
 
-module _ (h : Fields) (offset len n : ℕ) (e : pastImage h offset len n ≡ false) where
+module _ (h : AddressFields) (offset len n : ℕ) (e : pastImage h offset len n ≡ false) where
   not-past : offset + len ≤ n
-  not-past = ltb-false _ _ (or-none-right (not (eqb (h .end .0) 0) && ltb (h .end .0) (h .load .0)) (ltb n (offset + len)) e)
+  not-past = ltb-false _ _ (or-none-right (not (eqb (h .«load_end_addr» .0) 0) && ltb (h .«load_end_addr» .0) (h .«load_addr» .0)) (ltb n (offset + len)) e)
 
-  not-early : (h .end .0 ≡ 0 → ⊥) → h .load .0 ≤ h .end .0
+  not-early : (h .«load_end_addr» .0 ≡ 0 → ⊥) → h .«load_addr» .0 ≤ h .«load_end_addr» .0
   not-early z =
-      let f = or-none-left (not (eqb (h .end .0) 0) && ltb (h .end .0) (h .load .0)) (ltb n (offset + len)) e in
-      ltb-false _ _ (rw (ne-eqb (h .end .0) 0 z) at f)
+      let f = or-none-left (not (eqb (h .«load_end_addr» .0) 0) && ltb (h .«load_end_addr» .0) (h .«load_addr» .0)) (ltb n (offset + len)) e in
+      ltb-false _ _ (rw (ne-eqb (h .«load_end_addr» .0) 0 z) at f)
 
-not-outside : (h : Fields) (end : ℕ) → entryOutside h end ≡ false → (h .load .0 ≤ h .entry .0) × (h .entry .0 < end)
+not-outside : (h : AddressFields) (end : ℕ) → entryOutside h end ≡ false → (h .«load_addr» .0 ≤ h .«entry_addr» .0) × (h .«entry_addr» .0 < end)
 not-outside h end e =
-    let p = ltb (h .entry .0) (h .load .0) in
-    let q = leb end (h .entry .0) in
+    let p = ltb (h .«entry_addr» .0) (h .«load_addr» .0) in
+    let q = leb end (h .«entry_addr» .0) in
     (ltb-false _ _ (or-none-left p q e), leb-false _ _ (or-none-right p q e))
 
 -- the kernel's one segment
 abbrev pub segment : Kernel → Segment
 segment k = segmentNo k 0
 
-pub record Accepted (image : List ℕ) (k : Kernel) : Type 0 where
+pub record GoodKernel (image : List ℕ) (k : Kernel) : Type 0 where
   -- the header is the one that the search finds, whole with its address fields
   pub found : header image ≡ At (k .header)
-  pub early : k .header .0 + wholeLength ≤ searched
-  pub whole : k .header .0 + wholeLength ≤ length image
+  pub early : k .header .0 + fullHeader ≤ searchLimit
+  pub whole : k .header .0 + fullHeader ≤ length image
   pub pages : k .pages ≡ onPages (flagsAt image (k .header .0))
   -- there is one segment, and zeros past it
   pub one : k .count ≡ 1
   pub rest : (i : ℕ) → 1 ≤ i → segmentNo k i ≡ noSegment
   -- the load bytes lie inside the image, the entry among them, the bss behind them
-  pub inside : segment k .offset .0 + (segment k .loaded .0 - segment k .start .0) ≤ length image
+  pub inside : segment k .offset .0 + (segment k .«load_end» .0 - segment k .start .0) ≤ length image
   pub low : segment k .start .0 ≤ k .entry .0
-  pub high : k .entry .0 < segment k .loaded .0
-  pub end : segment k .loaded .0 ≤ segment k .end .0
+  pub high : k .entry .0 < segment k .«load_end» .0
+  pub end : segment k .«load_end» .0 ≤ segment k .«extent_end» .0
 
 past-first : (s : Segment) (n i : ℕ) → 1 ≤ i → getD (s ∷ replicate n noSegment) i noSegment ≡ noSegment
 past-first s n zero l = absurd (omega arith)
 past-first s n (suc i) l = replicate-at n i noSegment
 
-pub accepted : (image : List ℕ) → firstOf (imageChecks image) Load ≡ Load → Accepted image (kernelOf image)
-unfolding kernelOf kernelAt
-accepted image e =
-    let p = passed image e in
+pub good-kernel : (image : List ℕ) → firstOf (imageChecks image) Load ≡ Load → GoodKernel image (kernelOf image)
+unfolding kernelOf kernelFor
+good-kernel image e =
+    let p = image-passed image e in
     let at = not-cut-off (headerOffset image) (length image) (p .whole) in
     let entry = not-outside (headerFields image) (loadEnd (headerFields image) (countLoaded image)) (p .entered) in
     record {
@@ -157,15 +157,15 @@ accepted image e =
 pub record Calculated (image : List ℕ) (k : Kernel) : Type 0 where
   pub start : segment k .start .0 ≡ numberAt 4 image (k .header .0 + 16)
   pub offset : segment k .offset .0 + numberAt 4 image (k .header .0 + 12) ≡ k .header .0 + numberAt 4 image (k .header .0 + 16)
-  pub whole : numberAt 4 image (k .header .0 + 20) ≡ 0 → segment k .loaded .0 ≡ segment k .start .0 + (length image - segment k .offset .0)
-  pub given : (numberAt 4 image (k .header .0 + 20) ≡ 0 → ⊥) → segment k .loaded .0 ≡ numberAt 4 image (k .header .0 + 20)
-  pub end : segment k .end .0 ≡ max (segment k .loaded .0) (numberAt 4 image (k .header .0 + 24))
+  pub whole : numberAt 4 image (k .header .0 + 20) ≡ 0 → segment k .«load_end» .0 ≡ segment k .start .0 + (length image - segment k .offset .0)
+  pub given : (numberAt 4 image (k .header .0 + 20) ≡ 0 → ⊥) → segment k .«load_end» .0 ≡ numberAt 4 image (k .header .0 + 20)
+  pub end : segment k .«extent_end» .0 ≡ max (segment k .«load_end» .0) (numberAt 4 image (k .header .0 + 24))
   pub entry : k .entry .0 ≡ numberAt 4 image (k .header .0 + 28)
 
 pub calculated : (image : List ℕ) → firstOf (imageChecks image) Load ≡ Load → Calculated image (kernelOf image)
-unfolding kernelOf kernelAt fieldsAt loadLength
+unfolding kernelOf kernelFor fieldsAt loadLength
 calculated image e =
-    let p = passed image e in
+    let p = image-passed image e in
     let b = not-before (headerFields image) (headerOffset image) (p .after) in
     record {
       start = refl;
@@ -177,19 +177,19 @@ calculated image e =
     }
 
 -- the addresses of an image of bytes: fields below 2^32, and the ends as far above as the image is long
-pub record Small (image : List ℕ) (k : Kernel) : Type 0 where
+pub record KernelSmall (image : List ℕ) (k : Kernel) : Type 0 where
   pub start : segment k .start .0 < 2 ^ 32
   pub entry : k .entry .0 < 2 ^ 32
-  pub end : segment k .end .0 < 2 ^ 32 + length image
+  pub end : segment k .«extent_end» .0 < 2 ^ 32 + length image
 
 word-small : (image : List ℕ) (at : ℕ) → Bytes image → numberAt 4 image at < 2 ^ 32
 word-small image at b = number-bound 4 _ (bytes-drop at image b)
 
-pub small : (image : List ℕ) → Bytes image → firstOf (imageChecks image) Load ≡ Load → Small image (kernelOf image)
-unfolding fieldsAt kernelOf kernelAt
-small image b e =
+pub kernel-small : (image : List ℕ) → Bytes image → firstOf (imageChecks image) Load ≡ Load → KernelSmall image (kernelOf image)
+unfolding fieldsAt kernelOf kernelFor
+kernel-small image b e =
     let o = headerOffset image in
-    let k = accepted image e in
+    let k = good-kernel image e in
     record {
       start = word-small image (o + 16) b;
       entry = word-small image (o + 28) b;

@@ -1,6 +1,6 @@
 // The checks on the header and on the load.
 use crate::load;
-use crate::load::Fields;
+use crate::load::AddressFields;
 use address::ImageOffset;
 use address::PhysAddr;
 use answer::Answer;
@@ -30,14 +30,14 @@ pub fn no_addresses(flags: u32) -> bool
 pub fn cut_off(at: ImageOffset, n: usize) -> bool
     ensures { λ r. ⌜ r ≡ cutOff (at .0) n ⌝ }
 {
-    if header::SEARCHED - load::WHOLE_LENGTH < at.0 {
+    if header::SEARCH_LIMIT - load::FULL_HEADER < at.0 {
         return true;
     }
-    n < at.0 + load::WHOLE_LENGTH
+    n < at.0 + load::FULL_HEADER
 }
 
 // The first of checks 11 to 14 that refuses a load of `len` bytes from the offset, of an image of n bytes.
-pub fn check_load(h: Fields, offset: ImageOffset, len: usize, n: usize) -> Answer
+pub fn check_load(h: AddressFields, offset: ImageOffset, len: usize, n: usize) -> Answer
     requires { ⌜ (offset .0 + len < 2 ^ 64) × (loadEnd h len < 2 ^ 64) ⌝ }
     ensures { λ r. ⌜ r ≡ firstOf (loadChecks h (offset .0) len n) Answer.Load ⌝ }
 {
@@ -58,17 +58,17 @@ pub fn check_load(h: Fields, offset: ImageOffset, len: usize, n: usize) -> Answe
 }
 
 // Whether no image byte is left to load.
-fn nothing_left(h: Fields, offset: ImageOffset, n: usize) -> bool
+fn nothing_left(h: AddressFields, offset: ImageOffset, n: usize) -> bool
     ensures { λ r. ⌜ r ≡ nothingLeft h (offset .0) n ⌝ }
 {
-    if h.end.0 != 0 {
+    if h.load_end_addr.0 != 0 {
         return false;
     }
     n <= offset.0
 }
 
 // Whether the load ends before it begins, or past the image.
-fn past_image(h: Fields, offset: ImageOffset, len: usize, n: usize) -> bool
+fn past_image(h: AddressFields, offset: ImageOffset, len: usize, n: usize) -> bool
     requires { ⌜ offset .0 + len < 2 ^ 64 ⌝ }
     ensures { λ r. ⌜ r ≡ pastImage h (offset .0) len n ⌝ }
 {
@@ -79,31 +79,31 @@ fn past_image(h: Fields, offset: ImageOffset, len: usize, n: usize) -> bool
 }
 
 // Whether load_end_addr is given and below load_addr.
-fn ends_early(h: Fields) -> bool
-    ensures { λ r. ⌜ r ≡ not (eqb (h .end .0) 0) && ltb (h .end .0) (h .load .0) ⌝ }
+fn ends_early(h: AddressFields) -> bool
+    ensures { λ r. ⌜ r ≡ not (eqb (h .«load_end_addr» .0) 0) && ltb (h .«load_end_addr» .0) (h .«load_addr» .0) ⌝ }
 {
-    if h.end.0 == 0 {
+    if h.load_end_addr.0 == 0 {
         return false;
     }
-    h.end.0 < h.load.0
+    h.load_end_addr.0 < h.load_addr.0
 }
 
 // Whether bss_end_addr is given and below the load end.
-fn bss_below(h: Fields, loaded: PhysAddr) -> bool
+fn bss_below(h: AddressFields, loaded: PhysAddr) -> bool
     ensures { λ r. ⌜ r ≡ bssBelow h (loaded .0) ⌝ }
 {
-    if h.bss.0 == 0 {
+    if h.bss_end_addr.0 == 0 {
         return false;
     }
-    h.bss.0 < loaded.0
+    h.bss_end_addr.0 < loaded.0
 }
 
 // Whether the entry is not among the load bytes.
-fn entry_outside(h: Fields, loaded: PhysAddr) -> bool
+fn entry_outside(h: AddressFields, loaded: PhysAddr) -> bool
     ensures { λ r. ⌜ r ≡ entryOutside h (loaded .0) ⌝ }
 {
-    if h.entry.0 < h.load.0 {
+    if h.entry_addr.0 < h.load_addr.0 {
         return true;
     }
-    loaded.0 <= h.entry.0
+    loaded.0 <= h.entry_addr.0
 }

@@ -3,27 +3,27 @@ use address::ImageOffset;
 use address::PhysAddr;
 use answer::Answer;
 use header::Search;
-use load::Fields;
+use load::AddressFields;
 ghost use mathlib.Core.Path.{_≡_};
 ghost use Prim.Native.Nat.{_^_, _<_};
 ghost use Rattle.laws.specs.Checks.{firstOf};
 ghost use Rattle.header.specs.Header.{header};
 ghost use Rattle.image.specs.Load.{onPages, loadLength, loadEnd};
 ghost use Rattle.image.specs.Narrow.{Narrow};
-ghost use Rattle.image.specs.Judged.{loadChecks, noSegment, noKernel, kernelAt, refused, withKernel, judged};
+ghost use Rattle.image.specs.Judged.{loadChecks, noSegment, noKernel, kernelFor, refused, withKernel, judged};
 
 mod check;
 mod load;
 
 // At most so many segments.
-pub const SEGMENTS: usize = 16;
+pub const MAX_SEGMENTS: usize = 16;
 
-// A stretch of the kernel: the addresses from start up to `loaded` get the image's bytes from `offset` on, those from
-// `loaded` up to `end` zeros.
+// A stretch of the kernel: the addresses from start up to the load end get the image's bytes from `offset` on, those from
+// there up to the extent end zeros.
 pub struct Segment {
     pub start: PhysAddr,
-    pub loaded: PhysAddr,
-    pub end: PhysAddr,
+    pub load_end: PhysAddr,
+    pub extent_end: PhysAddr,
     pub offset: ImageOffset,
 }
 
@@ -33,7 +33,7 @@ pub struct Kernel {
     pub header: ImageOffset,
     pub pages: bool,
     pub entry: PhysAddr,
-    pub segments: [Segment; SEGMENTS],
+    pub segments: [Segment; MAX_SEGMENTS],
     pub count: usize,
 }
 
@@ -48,7 +48,7 @@ pub fn judge(image: &[u8]) -> Judged
     ensures { λ r. ⌜ r ≡ judged (now (image .entry)) ⌝ }
 {
     match header::find_header(image) {
-        Search::Nothing => refusal(Answer::NoHeader),
+        Search::Nothing => refused(Answer::NoHeader),
         Search::At(at) => judge_header(image, at),
     }
 }
@@ -61,48 +61,60 @@ fn judge_header(image: &[u8], at: ImageOffset) -> Judged
     let o = at.0;
     let flags = number::read_u32(image, o + 4);
     if check::unknown_request(flags) {
-        return refusal(Answer::UnknownRequest);
+        return refused(Answer::UnknownRequest);
     }
     if check::no_addresses(flags) {
-        return refusal(Answer::NoAddressFields);
+        return refused(Answer::NoAddressFields);
     }
     if check::cut_off(at, image.len()) {
-        return refusal(Answer::HeaderCutOff);
+        return refused(Answer::HeaderCutOff);
     }
     let h = load::read_fields(image, o);
     match load::load_offset(h, at) {
-        Search::Nothing => refusal(Answer::LoadBeforeImage),
+        Search::Nothing => refused(Answer::LoadBeforeImage),
         Search::At(offset) => judge_load(h, flags, at, offset, image.len()),
     }
 }
 
 // The answer for an image of n bytes whose load begins at the offset, once its header at `at` is accepted.
-fn judge_load(h: Fields, flags: u32, at: ImageOffset, offset: ImageOffset, n: usize) -> Judged
+fn judge_load(
+    h: AddressFields,
+    flags: u32,
+    at: ImageOffset,
+    offset: ImageOffset,
+    n: usize,
+) -> Judged
     requires { ⌜ Narrow h × (offset .0 < 2 ^ 32) × (n < 2 ^ 63) ⌝ }
-    ensures { λ r. ⌜ r ≡ withKernel (firstOf (loadChecks h (offset .0) (loadLength h (offset .0) n) n) Answer.Load) (kernelAt h (onPages flags) (at .0) (offset .0) (loadLength h (offset .0) n)) ⌝ }
+    ensures { λ r. ⌜ r ≡ withKernel (firstOf (loadChecks h (offset .0) (loadLength h (offset .0) n) n) Answer.Load) (kernelFor h (onPages flags) (at .0) (offset .0) (loadLength h (offset .0) n)) ⌝ }
 {
     let len = load::load_length(h, offset, n);
     let answer = check::check_load(h, offset, len, n);
-    let kernel = kernel_at(h, load::on_pages(flags), at, offset, len);
+    let kernel = kernel_for(h, load::on_pages(flags), at, offset, len);
     with_kernel(answer, kernel)
 }
 
 // The kernel of a header at `at`, with `len` bytes to load from the offset.
-fn kernel_at(h: Fields, pages: bool, at: ImageOffset, offset: ImageOffset, len: usize) -> Kernel
+fn kernel_for(
+    h: AddressFields,
+    pages: bool,
+    at: ImageOffset,
+    offset: ImageOffset,
+    len: usize,
+) -> Kernel
     requires { ⌜ loadEnd h len < 2 ^ 64 ⌝ }
-    ensures { λ r. ⌜ r ≡ kernelAt h pages (at .0) (offset .0) len ⌝ }
+    ensures { λ r. ⌜ r ≡ kernelFor h pages (at .0) (offset .0) len ⌝ }
 {
-    let start = h.load;
-    let loaded = load::load_end(h, len);
-    let end = load::extent_end(h, loaded);
-    let mut segments = [no_segment(); SEGMENTS];
+    let start = h.load_addr;
+    let load_end = load::load_end(h, len);
+    let extent_end = load::extent_end(h, load_end);
+    let mut segments = [no_segment(); MAX_SEGMENTS];
     segments[0] = Segment {
         start,
-        loaded,
-        end,
+        load_end,
+        extent_end,
         offset,
     };
-    let entry = h.entry;
+    let entry = h.entry_addr;
     Kernel {
         header: at,
         pages,
@@ -118,8 +130,8 @@ fn no_segment() -> Segment
 {
     Segment {
         start: PhysAddr(0),
-        loaded: PhysAddr(0),
-        end: PhysAddr(0),
+        load_end: PhysAddr(0),
+        extent_end: PhysAddr(0),
         offset: ImageOffset(0),
     }
 }
@@ -132,7 +144,7 @@ pub fn no_kernel() -> Kernel
         header: ImageOffset(0),
         pages: false,
         entry: PhysAddr(0),
-        segments: [no_segment(); SEGMENTS],
+        segments: [no_segment(); MAX_SEGMENTS],
         count: 0,
     }
 }
@@ -144,12 +156,12 @@ fn with_kernel(answer: Answer, kernel: Kernel) -> Judged
     if answer::is_load(answer) {
         Judged { answer, kernel }
     } else {
-        refusal(answer)
+        refused(answer)
     }
 }
 
 // The answer with zeros.
-fn refusal(answer: Answer) -> Judged
+fn refused(answer: Answer) -> Judged
     ensures { λ r. ⌜ r ≡ refused answer ⌝ }
 {
     Judged {

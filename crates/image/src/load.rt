@@ -7,25 +7,25 @@ ghost use mathlib.Core.Bool.{cond};
 ghost use Prim.Native.Nat.{_+_, _-_, _^_, _≤_, _<_, max};
 ghost use lib.ListN.{length};
 ghost use Rattle.number.specs.Number.{numberAt};
-ghost use Rattle.image.specs.Load.{onPages, fieldsAt, wholeLength, loadOffset, loadLength, loadEnd};
+ghost use Rattle.image.specs.Load.{onPages, fieldsAt, fullHeader, loadOffset, loadLength, loadEnd};
 ghost use Rattle.image.specs.Narrow.{Narrow};
 ghost use Rattle.image.specs.Judged.{beforeImage};
 
 // A header with its address fields.
-pub const WHOLE_LENGTH: usize = 32;
+pub const FULL_HEADER: usize = 32;
 
 // The address fields of a header.
-pub struct Fields {
-    // header_addr: where the header goes
-    pub header: PhysAddr,
-    // load_addr: where the load begins
-    pub load: PhysAddr,
-    // load_end_addr: where it ends; 0 where all the image is loaded
-    pub end: PhysAddr,
-    // bss_end_addr: where the bss ends; 0 where there is none
-    pub bss: PhysAddr,
-    // entry_addr: where the kernel is entered
-    pub entry: PhysAddr,
+pub struct AddressFields {
+    // where the header goes
+    pub header_addr: PhysAddr,
+    // where the load begins
+    pub load_addr: PhysAddr,
+    // where it ends; 0 where all the image is loaded
+    pub load_end_addr: PhysAddr,
+    // where the bss ends; 0 where there is none
+    pub bss_end_addr: PhysAddr,
+    // where the kernel is entered
+    pub entry_addr: PhysAddr,
 }
 
 // Whether the flags ask for page-aligned modules: bit 0.
@@ -44,28 +44,28 @@ fn read_address(image: &[u8], at: usize) -> PhysAddr
 }
 
 // The address fields of the header at the offset `at`.
-pub fn read_fields(image: &[u8], at: usize) -> Fields
-    requires { ⌜ at + wholeLength ≤ length (now image) ⌝ }
+pub fn read_fields(image: &[u8], at: usize) -> AddressFields
+    requires { ⌜ at + fullHeader ≤ length (now image) ⌝ }
     ensures { λ r. ⌜ (r ≡ fieldsAt (now (image .entry)) at) × Narrow r ⌝ }
 {
-    Fields {
-        header: read_address(image, at + 12),
-        load: read_address(image, at + 16),
-        end: read_address(image, at + 20),
-        bss: read_address(image, at + 24),
-        entry: read_address(image, at + 28),
+    AddressFields {
+        header_addr: read_address(image, at + 12),
+        load_addr: read_address(image, at + 16),
+        load_end_addr: read_address(image, at + 20),
+        bss_end_addr: read_address(image, at + 24),
+        entry_addr: read_address(image, at + 28),
     }
 }
 
 // The load offset: as far before the header as load_addr is below header_addr, or nothing where that is before the image.
 // No other function goes between addresses and offsets.
-pub fn load_offset(h: Fields, header: ImageOffset) -> Search
+pub fn load_offset(h: AddressFields, header: ImageOffset) -> Search
     ensures { λ r. ⌜ r ≡ cond (beforeImage h (header .0)) Search.Nothing (Search.At (record { 0 = loadOffset h (header .0) })) ⌝ }
 {
-    if h.header.0 < h.load.0 {
+    if h.header_addr.0 < h.load_addr.0 {
         return Search::Nothing;
     }
-    let back = (h.header.0 - h.load.0) as usize;
+    let back = (h.header_addr.0 - h.load_addr.0) as usize;
     if header.0 < back {
         return Search::Nothing;
     }
@@ -73,13 +73,13 @@ pub fn load_offset(h: Fields, header: ImageOffset) -> Search
 }
 
 // How many of the image's n bytes are loaded.
-pub fn load_length(h: Fields, offset: ImageOffset, n: usize) -> usize
+pub fn load_length(h: AddressFields, offset: ImageOffset, n: usize) -> usize
     ensures { λ r. ⌜ r ≡ loadLength h (offset .0) n ⌝ }
 {
-    if h.end.0 == 0 {
+    if h.load_end_addr.0 == 0 {
         bytes_from(offset, n)
     } else {
-        h.end.offset_from(h.load)
+        h.load_end_addr.offset_from(h.load_addr)
     }
 }
 
@@ -94,16 +94,20 @@ fn bytes_from(offset: ImageOffset, n: usize) -> usize
 }
 
 // Where the load ends.
-pub fn load_end(h: Fields, len: usize) -> PhysAddr
+pub fn load_end(h: AddressFields, len: usize) -> PhysAddr
     requires { ⌜ loadEnd h len < 2 ^ 64 ⌝ }
     ensures { λ r. ⌜ r ≡ record { 0 = loadEnd h len } ⌝ }
 {
-    PhysAddr(h.load.0 + len as u64)
+    PhysAddr(h.load_addr.0 + len as u64)
 }
 
 // Where the kernel's extent ends: at the load end, or behind the bss.
-pub fn extent_end(h: Fields, loaded: PhysAddr) -> PhysAddr
-    ensures { λ r. ⌜ r ≡ record { 0 = max (loaded .0) (h .bss .0) } ⌝ }
+pub fn extent_end(h: AddressFields, loaded: PhysAddr) -> PhysAddr
+    ensures { λ r. ⌜ r ≡ record { 0 = max (loaded .0) (h .«bss_end_addr» .0) } ⌝ }
 {
-    if loaded.0 < h.bss.0 { h.bss } else { loaded }
+    if loaded.0 < h.bss_end_addr.0 {
+        h.bss_end_addr
+    } else {
+        loaded
+    }
 }

@@ -1,6 +1,6 @@
 -- What is placed, and beside what.                                                                   rule: PLACING
 --     extentNo, extentsOf    the kernel's extents
---     itemNo, itemsOf        the modules from index 0, then the information block
+--     loadItem, itemsOf        the modules from index 0, then the information block
 --     moduleSpans            the modules' spans among those placed, zeros past the last
 -- Assumes nothing.
 use mathlib.Core.Bool.{Bool, false, cond}
@@ -9,33 +9,33 @@ use Prim.Native.Nat.{ℕ, _+_}
 use lib.Dec.{ltb}
 use Rattle.laws.specs.Table.{table}
 use Rattle.address.specs.declared.Span.{Span}
-use Rattle.address.specs.Address.{boundaryOf, noSpan}
+use Rattle.address.specs.Address.{boundaryOf, noSpan, spanNo}
 use Rattle.submission.specs.declared.Layout.{Layout}
-use Rattle.submission.specs.Format.{moduleLimit, moduleNo}
+use Rattle.submission.specs.Format.{maxModules, moduleNo}
 use Rattle.image.specs.declared.Kernel.{Kernel}
 use Rattle.image.specs.Judged.{segmentNo}
 use Rattle.placement.specs.declared.Item.{Item}
 use Rattle.placement.specs.declared.Items.{Items}
 use Rattle.placement.specs.declared.Spans.{Spans}
-use Rattle.placement.specs.Free.{maxSpans, spanAt}
+use Rattle.placement.specs.Free.{maxSpans}
 use Rattle.placement.specs.Order.{maxItems, noItem}
 
 -- a segment's extent runs from its start to its end, bss included
 abbrev pub extentNo : Kernel → ℕ → Span
-extentNo k i = record { start = segmentNo k i .start; end = segmentNo k i .end }
+extentNo k i = record { start = segmentNo k i .start; end = segmentNo k i .«extent_end» }
 
 unfoldable pub extentsOf : Kernel → Spans
 extentsOf k = record { list = table (extentNo k) (k .count) maxSpans noSpan; count = k .count }
 
 -- a module is as long as its data, on its boundary; behind the last comes the information block, of so many bytes
-unfoldable pub itemNo : Layout → Bool → ℕ → ℕ → Item
-itemNo l pages size i =
+unfoldable pub loadItem : Layout → Bool → ℕ → ℕ → Item
+loadItem l pages size i =
     cond (ltb i (l .count))
     (record { length = moduleNo l i .«data» .len; boundary = boundaryOf pages })
     (record { length = size; boundary = boundaryOf false })
 
 unfoldable pub itemsOf : Layout → Bool → ℕ → Items
-itemsOf l pages size = record { list = table (itemNo l pages size) (l .count + 1) maxItems noItem; count = l .count + 1 }
+itemsOf l pages size = record { list = table (loadItem l pages size) (l .count + 1) maxItems noItem; count = l .count + 1 }
 
 unfoldable pub moduleSpans : Spans → ℕ → ℕ → List Span
-moduleSpans t from n = table (λ i. spanAt t (from + i)) n moduleLimit noSpan
+moduleSpans t from n = table (λ i. spanNo (t .list) (from + i)) n maxModules noSpan

@@ -15,23 +15,23 @@ use Rattle.address.specs.Address.{boundaryOf}
 use Rattle.submission.specs.declared.Layout.{Layout}
 use Rattle.submission.specs.Format.{moduleNo}
 use Rattle.placement.specs.declared.Item.{Item}
-use Rattle.placement.specs.Order.{maxItems, itemAt, noItem}
+use Rattle.placement.specs.Order.{maxItems, itemNo, noItem}
 use Rattle.placement.specs.Ready.{Bounded}
-use Rattle.items.specs.LoadItems.{itemNo, itemsOf}
+use Rattle.items.specs.LoadItems.{loadItem, itemsOf}
 
 module _ (l : Layout) (pages : Bool) (size : ℕ) where
   -- the item of an index is a module's, or the information block's
-  pub item-module : (i : ℕ) → i < l .count → itemNo l pages size i ≡ record { length = moduleNo l i .«data» .len; boundary = boundaryOf pages }
-  unfolding itemNo
+  pub item-module : (i : ℕ) → i < l .count → loadItem l pages size i ≡ record { length = moduleNo l i .«data» .len; boundary = boundaryOf pages }
+  unfolding loadItem
   item-module i h = rw (lt-ltb i (l .count) h)
 
-  pub item-block : itemNo l pages size (l .count) ≡ record { length = size; boundary = boundaryOf false }
-  unfolding itemNo
+  pub item-block : loadItem l pages size (l .count) ≡ record { length = size; boundary = boundaryOf false }
+  unfolding loadItem
   item-block = rw (le-ltb (l .count) (l .count) (omega arith))
 
-  pub item-at : (i : ℕ) → i < l .count + 1 → itemAt (itemsOf l pages size) i ≡ itemNo l pages size i
+  pub item-at : (i : ℕ) → i < l .count + 1 → itemNo (itemsOf l pages size) i ≡ loadItem l pages size i
   unfolding itemsOf
-  item-at i h = table-at (itemNo l pages size) maxItems noItem (l .count + 1) i h
+  item-at i h = table-at (loadItem l pages size) maxItems noItem (l .count + 1) i h
 
 bounded : (pages : Bool) (n : ℕ) → Bounded (record { length = n; boundary = boundaryOf pages })
 bounded true n = record { some = omega arith; most = omega arith }
@@ -41,7 +41,7 @@ bounded false n = record { some = omega arith; most = omega arith }
 pub each-item : (P : Item → Type 0) (l : Layout) (pages : Bool) (size : ℕ)
     → ((i : ℕ) → i < l .count → P (record { length = moduleNo l i .«data» .len; boundary = boundaryOf pages }))
     → P (record { length = size; boundary = boundaryOf false })
-    → (i : ℕ) → i < itemsOf l pages size .count → P (itemAt (itemsOf l pages size) i)
+    → (i : ℕ) → i < itemsOf l pages size .count → P (itemNo (itemsOf l pages size) i)
 unfolding itemsOf
 each-item P l pages size m b i h =
     rw (item-at l pages size i h)
@@ -51,5 +51,5 @@ each-item P l pages size m b i h =
     (lt-or-le i (l .count)))
 
 -- every item has a boundary that an item may have
-pub items-bounded : (l : Layout) (pages : Bool) (size i : ℕ) → i < itemsOf l pages size .count → Bounded (itemAt (itemsOf l pages size) i)
+pub items-bounded : (l : Layout) (pages : Bool) (size i : ℕ) → i < itemsOf l pages size .count → Bounded (itemNo (itemsOf l pages size) i)
 items-bounded l pages size = each-item Bounded l pages size (λ i h. bounded pages (moduleNo l i .«data» .len)) (bounded false size)

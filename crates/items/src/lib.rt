@@ -8,17 +8,17 @@ use placement::Spans;
 use submission::Layout;
 ghost use mathlib.Core.Path.{_≡_};
 ghost use Prim.Native.Nat.{_+_, _≤_};
-ghost use Rattle.submission.specs.Format.{moduleLimit};
+ghost use Rattle.submission.specs.Format.{maxModules};
 ghost use Rattle.placement.specs.Free.{maxSpans};
-ghost use Rattle.image.specs.Judged.{segmentLimit};
-ghost use Rattle.items.specs.LoadItems.{extentNo, extentsOf, itemNo, itemsOf, moduleSpans};
+ghost use Rattle.image.specs.Judged.{maxSegments};
+ghost use Rattle.items.specs.LoadItems.{extentNo, extentsOf, loadItem, itemsOf, moduleSpans};
 
 // The kernel's extents, as spans taken.
 pub fn extents(kernel: Kernel) -> Spans
-    requires { ⌜ kernel .count ≤ segmentLimit ⌝ }
+    requires { ⌜ kernel .count ≤ maxSegments ⌝ }
     ensures { λ r. ⌜ r ≡ extentsOf kernel ⌝ }
 {
-    let mut list = [Span::none(); placement::SPANS];
+    let mut list = [Span::none(); placement::MAX_SPANS];
     let mut i = 0;
     while i < kernel.count {
         list[i] = extent(kernel, i);
@@ -29,25 +29,25 @@ pub fn extents(kernel: Kernel) -> Spans
 
 // The extent of a segment.
 pub fn extent(kernel: Kernel, i: usize) -> Span
-    requires { ⌜ i + 1 ≤ segmentLimit ⌝ }
+    requires { ⌜ i + 1 ≤ maxSegments ⌝ }
     ensures { λ r. ⌜ r ≡ extentNo kernel i ⌝ }
 {
     let segment = kernel.segments[i];
     let start = segment.start;
-    let end = segment.end;
+    let end = segment.extent_end;
     Span { start, end }
 }
 
 // The modules of a submission, on pages or not, and an information block of `size` bytes, as items.
 pub fn items(layout: Layout, pages: bool, size: u64) -> Items
-    requires { ⌜ layout .count ≤ moduleLimit ⌝ }
+    requires { ⌜ layout .count ≤ maxModules ⌝ }
     ensures { λ r. ⌜ r ≡ itemsOf layout pages size ⌝ }
 {
     let none = Item {
         length: 0,
         boundary: 0,
     };
-    let mut list = [none; placement::ITEMS];
+    let mut list = [none; placement::MAX_ITEMS];
     let mut i = 0;
     while i <= layout.count {
         list[i] = item(layout, pages, size, i);
@@ -58,8 +58,8 @@ pub fn items(layout: Layout, pages: bool, size: u64) -> Items
 
 // The item of an index: a module, or behind the last one the information block.
 fn item(layout: Layout, pages: bool, size: u64, i: usize) -> Item
-    requires { ⌜ (layout .count ≤ moduleLimit) × (i ≤ layout .count) ⌝ }
-    ensures { λ r. ⌜ r ≡ itemNo layout pages size i ⌝ }
+    requires { ⌜ (layout .count ≤ maxModules) × (i ≤ layout .count) ⌝ }
+    ensures { λ r. ⌜ r ≡ loadItem layout pages size i ⌝ }
 {
     if i < layout.count {
         let m = layout.modules[i];
@@ -75,11 +75,11 @@ fn item(layout: Layout, pages: bool, size: u64, i: usize) -> Item
 }
 
 // The spans of `count` modules among those placed, of which the first is at the index `from`.
-pub fn module_spans(spans: Spans, from: usize, count: usize) -> [Span; submission::MODULES]
-    requires { ⌜ (count ≤ moduleLimit) × (from + count ≤ maxSpans) ⌝ }
+pub fn module_spans(spans: Spans, from: usize, count: usize) -> [Span; submission::MAX_MODULES]
+    requires { ⌜ (count ≤ maxModules) × (from + count ≤ maxSpans) ⌝ }
     ensures { λ r. ⌜ r ≡ moduleSpans spans from count ⌝ }
 {
-    let mut list = [Span::none(); submission::MODULES];
+    let mut list = [Span::none(); submission::MAX_MODULES];
     let mut i = 0;
     while i < count {
         list[i] = spans.list[from + i];

@@ -4,7 +4,7 @@
 --     Inside, span-inside     each of them lies in open memory, so inside the window and below the top
 --     span-apart              no two of them share an address, but for two extents of the kernel
 --     module-span, block-span the plan's modules and block among them
---     module-length, block-length    how long they are
+--     module-span-length, block-span-length    how long they are
 -- Assumes nothing.
 use mathlib.Core.Path.{_≡_, refl, sym, ap, _∙_}
 use mathlib.Core.Bool.{true}
@@ -17,28 +17,28 @@ use Rattle.laws.specs.TableLaws.{table-at}
 use Rattle.address.specs.Address.{top, noSpan, spanNo}
 use Rattle.address.specs.declared.Span.{Span}
 use Rattle.answer.specs.Answer.{isLoad}
-use Rattle.answer.specs.Order.{chain-append, or-else-load}
-use Rattle.submission.specs.Format.{moduleLimit, moduleNo}
-use Rattle.image.specs.JudgedLaws.{accepted}
-use Rattle.board.specs.Open.{openAt}
+use Rattle.answer.specs.ChainLaws.{chain-append, or-else-load}
+use Rattle.submission.specs.Format.{maxModules, moduleNo}
+use Rattle.image.specs.JudgedLaws.{good-kernel}
+use Rattle.board.specs.Open.{isOpen}
 use Rattle.board.specs.OpenLaws.{open-is}
 use Rattle.placement.specs.declared.Item.{Item}
-use Rattle.placement.specs.Free.{maxSpans, spanAt}
+use Rattle.placement.specs.Free.{maxSpans}
 use Rattle.address.specs.InsideLaws.{Holds}
-use Rattle.placement.specs.Order.{itemAt}
+use Rattle.placement.specs.Order.{itemNo}
 use Rattle.placement.specs.Placing.{InOrder, Stands}
-use Rattle.decision.specs.Lent.{Lent, layoutIn, imageIn, kernelIn, boardIn, blockIn}
+use Rattle.decision.specs.Lent.{Lent, layoutIn, imageIn, kernelIn, boardIn, blockLengthIn}
 use Rattle.items.specs.LoadItems.{extentNo, extentsOf, itemsOf, moduleSpans}
 use Rattle.decision.specs.Decided.{extentOpen, kernelOpen, kernelChecks, planOf}
 use Rattle.decision.specs.Decision.{lentChecks, checks, answerOf, placedIn, planIn}
-use Rattle.decision.specs.DecisionLaws.{lent-refuses, Passed, passed, prepared}
+use Rattle.decision.specs.DecisionLaws.{lent-refuses, LentPassed, lent-passed, prepared}
 use Rattle.items.specs.LoadItemsLaws.{item-at, item-module, item-block}
-use Rattle.decision.specs.PlacedLaws.{item-some, in-order}
+use Rattle.decision.specs.PlacedLaws.{item-some, load-in-order}
 use Rattle.decision.specs.StageLaws.{kernel-refuses, kernel-passed, all-placed}
 
 -- what is known where no check refuses
 pub record Loads (x : Lent) : Type 0 where
-  pub passed : Passed x
+  pub passed : LentPassed x
   pub opened : kernelOpen (boardIn x) (kernelIn x) ≡ true
   pub placed : layoutIn x .count + 1 ≤ placedIn x .done
 
@@ -47,11 +47,11 @@ unfolding checks
 loads x h =
     let a = or-else-load _ _ (ap isLoad (sym (chain-append (lentChecks x) _ (lent-refuses x))) ∙ h) in
     let b = or-else-load _ _ (ap isLoad (sym (chain-append (kernelChecks (boardIn x) (kernelIn x)) _ (kernel-refuses (boardIn x) (kernelIn x)))) ∙ a .1) in
-    record { passed = passed x (a .0); opened = kernel-passed (boardIn x) (kernelIn x) (b .0); placed = all-placed _ _ (b .1) }
+    record { passed = lent-passed x (a .0); opened = kernel-passed (boardIn x) (kernelIn x) (b .0); placed = all-placed _ _ (b .1) }
 
 -- the spans of a load, in this order: the kernel's extents, the modules, the information block
 abbrev pub spanIn : Lent → ℕ → Span
-spanIn x j = spanAt (placedIn x .spans) j
+spanIn x j = spanNo (placedIn x .spans .list) j
 
 abbrev pub countIn : Lent → ℕ
 countIn x = kernelIn x .count + (layoutIn x .count + 1)
@@ -64,8 +64,8 @@ pub record Inside (x : Lent) (s : Span) : Type 0 where
   pub top : s .end .0 ≤ top
 
 module _ (x : Lent) (l : Loads x) where
-  pub order : InOrder (openAt (boardIn x)) (extentsOf (kernelIn x)) (itemsOf (layoutIn x) (kernelIn x .pages) (blockIn x)) (placedIn x)
-  order = in-order (boardIn x) (kernelIn x) (layoutIn x) (blockIn x) (prepared x (l .passed))
+  pub order : InOrder (isOpen (boardIn x)) (extentsOf (kernelIn x)) (itemsOf (layoutIn x) (kernelIn x .pages) (blockLengthIn x)) (placedIn x)
+  order = load-in-order (boardIn x) (kernelIn x) (layoutIn x) (blockLengthIn x) (prepared x (l .passed))
 
   pub all-done : placedIn x .done ≡ layoutIn x .count + 1
   unfolding itemsOf
@@ -81,15 +81,15 @@ module _ (x : Lent) (l : Loads x) where
   kernel-span j h = order .kept j h ∙ table-at (extentNo (kernelIn x)) maxSpans noSpan (kernelIn x .count) j h
 
   -- then the items
-  pub item-span : (i : ℕ) → i < layoutIn x .count + 1 → Stands (openAt (boardIn x)) (placedIn x .spans) (kernelIn x .count + i) (itemAt (itemsOf (layoutIn x) (kernelIn x .pages) (blockIn x)) i)
+  pub item-span : (i : ℕ) → i < layoutIn x .count + 1 → Stands (isOpen (boardIn x)) (placedIn x .spans) (kernelIn x .count + i) (itemNo (itemsOf (layoutIn x) (kernelIn x .pages) (blockLengthIn x)) i)
   unfolding extentsOf
   item-span i h = order .stands i (omega (arith, all-done))
 
   pub one-segment : kernelIn x .count ≡ 1
-  one-segment = accepted (imageIn x) (l .passed .image) .one
+  one-segment = good-kernel (imageIn x) (l .passed .image) .one
 
   -- every address of a span is open
-  pub span-open : (j : ℕ) → j < countIn x → (a : ℕ) → Holds (spanIn x j) a → openAt (boardIn x) a ≡ true
+  pub span-open : (j : ℕ) → j < countIn x → (a : ℕ) → Holds (spanIn x j) a → isOpen (boardIn x) a ≡ true
   unfolding extentsOf kernelOpen extentOpen
   span-open j h a m =
       ⊎-elim
@@ -98,7 +98,7 @@ module _ (x : Lent) (l : Loads x) where
       let s = kernel-span j u in
       let p : spanIn x j .start .0 ≡ extentNo (kernelIn x) j .start .0 = ap (λ (t : Span). t .start .0) s in
       let q : spanIn x j .end .0 ≡ extentNo (kernelIn x) j .end .0 = ap (λ (t : Span). t .end .0) s in
-      all-elim (openAt (boardIn x)) (extentNo (kernelIn x) j .start .0) _ e a (omega arith) (omega arith))
+      all-elim (isOpen (boardIn x)) (extentNo (kernelIn x) j .start .0) _ e a (omega arith) (omega arith))
       (λ (u : kernelIn x .count ≤ j). order .opened j u (omega (arith, span-count)) a m)
       (lt-or-le j (kernelIn x .count))
 
@@ -108,12 +108,12 @@ module _ (x : Lent) (l : Loads x) where
       ⊎-elim
       (λ (u : j < kernelIn x .count).
       let z : j ≡ 0 = omega (arith, one-segment) in
-      let k = accepted (imageIn x) (l .passed .image) in
+      let k = good-kernel (imageIn x) (l .passed .image) in
       let s : spanIn x j ≡ extentNo (kernelIn x) 0 = kernel-span j u ∙ ap (extentNo (kernelIn x)) z in
       rw s (omega (arith, k .low, k .high, k .end)))
       (λ (u : kernelIn x .count ≤ j).
       let e : kernelIn x .count + (j - kernelIn x .count) ≡ j = omega arith in
-      let n = item-some (boardIn x) (kernelIn x) (layoutIn x) (blockIn x) (prepared x (l .passed)) (j - kernelIn x .count) (omega arith) in
+      let n = item-some (boardIn x) (kernelIn x) (layoutIn x) (blockLengthIn x) (prepared x (l .passed)) (j - kernelIn x .count) (omega arith) in
       let s = item-span (j - kernelIn x .count) (omega arith) .length in
       rw e at (first-below s n))
       (lt-or-le j (kernelIn x .count))
@@ -141,20 +141,20 @@ module _ (x : Lent) (l : Loads x) where
   -- the plan's modules and its block, among the spans
   pub module-span : (i : ℕ) → i < layoutIn x .count → spanNo (planIn x .modules) i ≡ spanIn x (kernelIn x .count + i)
   unfolding planOf moduleSpans
-  module-span i h = table-at (λ j. spanAt (placedIn x .spans) (kernelIn x .count + j)) moduleLimit noSpan (layoutIn x .count) i h
+  module-span i h = table-at (λ j. spanNo (placedIn x .spans .list) (kernelIn x .count + j)) maxModules noSpan (layoutIn x .count) i h
 
   pub block-span : planIn x .block ≡ spanIn x (kernelIn x .count + layoutIn x .count)
   unfolding planOf
   block-span = refl
 
   -- a module's span is as long as its data, and the block's as long as the block
-  pub module-length : (i : ℕ) → i < layoutIn x .count → spanIn x (kernelIn x .count + i) .end .0 ≡ spanIn x (kernelIn x .count + i) .start .0 + moduleNo (layoutIn x) i .«data» .len
-  module-length i h =
+  pub module-span-length : (i : ℕ) → i < layoutIn x .count → spanIn x (kernelIn x .count + i) .end .0 ≡ spanIn x (kernelIn x .count + i) .start .0 + moduleNo (layoutIn x) i .«data» .len
+  module-span-length i h =
       item-span i (omega arith) .length
-      ∙ ap (λ (q : Item). spanIn x (kernelIn x .count + i) .start .0 + q .length) (item-at (layoutIn x) (kernelIn x .pages) (blockIn x) i (omega arith) ∙ item-module (layoutIn x) (kernelIn x .pages) (blockIn x) i h)
+      ∙ ap (λ (q : Item). spanIn x (kernelIn x .count + i) .start .0 + q .length) (item-at (layoutIn x) (kernelIn x .pages) (blockLengthIn x) i (omega arith) ∙ item-module (layoutIn x) (kernelIn x .pages) (blockLengthIn x) i h)
 
-  pub block-length : planIn x .block .end .0 ≡ planIn x .block .start .0 + blockIn x
+  pub block-span-length : planIn x .block .end .0 ≡ planIn x .block .start .0 + blockLengthIn x
   unfolding planOf
-  block-length =
+  block-span-length =
       item-span (layoutIn x .count) (omega arith) .length
-      ∙ ap (λ (q : Item). spanIn x (kernelIn x .count + layoutIn x .count) .start .0 + q .length) (item-at (layoutIn x) (kernelIn x .pages) (blockIn x) (layoutIn x .count) (omega arith) ∙ item-block (layoutIn x) (kernelIn x .pages) (blockIn x))
+      ∙ ap (λ (q : Item). spanIn x (kernelIn x .count + layoutIn x .count) .start .0 + q .length) (item-at (layoutIn x) (kernelIn x .pages) (blockLengthIn x) (layoutIn x .count) (omega arith) ∙ item-block (layoutIn x) (kernelIn x .pages) (blockLengthIn x))

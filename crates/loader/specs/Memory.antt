@@ -4,15 +4,15 @@
 --     contentsFor, contentsIn, blockWrite    the information block
 --     writesOf        all writes of a load
 --     memoryAfter     the window after a load, and after a refusal
---     Loaded          a plan is that of a load
+--     PlanOfLoad          a plan is that of a load
 -- Assumes nothing.
 use mathlib.Core.Path.{_≡_}
 use mathlib.Core.Bool.{true, cond}
 use mathlib.Core.List.{List, [], _∷_, _++_}
 use Prim.Native.Nat.{ℕ, _-_}
 use Rattle.laws.specs.Table.{listed}
-use Rattle.memory.specs.Patched.{zeros}
-use Rattle.memory.specs.Writes.{Write, written}
+use Rattle.buffer.specs.Patched.{zeros}
+use Rattle.buffer.specs.Writes.{Write, written}
 use Rattle.address.specs.declared.Span.{Span}
 use Rattle.address.specs.Address.{spanNo}
 use Rattle.answer.specs.Answer.{isLoad}
@@ -20,9 +20,9 @@ use Rattle.submission.specs.declared.Layout.{Layout}
 use Rattle.submission.specs.Format.{bytesOf, moduleNo}
 use Rattle.image.specs.declared.Kernel.{Kernel}
 use Rattle.command_line.specs.CommandLine.{commandLine}
-use Rattle.memory_map.specs.Pairs.{parsed}
+use Rattle.memory_map.specs.Pairs.{parsedMap}
 use Rattle.usable.specs.Sizes.{memLower, memUpper}
-use Rattle.information.specs.Information.{Contents, contentsOf, blockOf}
+use Rattle.block.specs.Block.{Contents, contentsOf, blockOf}
 use Rattle.image.specs.Judged.{segmentNo}
 use Rattle.decision.specs.declared.Plan.{Plan}
 use Rattle.decision.specs.Lent.{Lent, layoutIn, imageIn}
@@ -34,7 +34,7 @@ segmentWrite f image k i =
     let s = segmentNo k i in
     record {
       at = s .start .0 - f;
-      bytes = bytesOf image (record { at = s .offset .0; len = s .loaded .0 - s .start .0 }) ++ zeros (s .end .0 - s .loaded .0);
+      bytes = bytesOf image (record { at = s .offset .0; len = s .«load_end» .0 - s .start .0 }) ++ zeros (s .«extent_end» .0 - s .«load_end» .0);
     }
 
 unfoldable pub moduleWrite : ℕ → List ℕ → Layout → List Span → ℕ → Write
@@ -43,7 +43,7 @@ moduleWrite f s l spans i = record { at = spanNo spans i .start .0 - f; bytes = 
 -- what the information block says of modules at these spans, standing from the address `start` on
 abbrev pub contentsFor : List ℕ → List ℕ → List ℕ → Layout → List Span → ℕ → Contents
 contentsFor s operator m l spans start =
-    contentsOf s l spans m (commandLine operator s) start (memLower (parsed m .map)) (memUpper (parsed m .map))
+    contentsOf s l spans m (commandLine operator s) start (memLower (parsedMap m .map)) (memUpper (parsedMap m .map))
 
 unfoldable pub contentsIn : Lent → Contents
 contentsIn x = contentsFor (x .submission) (x .operator) (x .map) (layoutIn x) (planIn x .modules) (planIn x .block .start .0)
@@ -65,6 +65,6 @@ writesOf x = segmentWrites x ++ moduleWrites x ++ (blockWrite x ∷ [])
 unfoldable pub memoryAfter : Lent → List ℕ → List ℕ
 memoryAfter x w = cond (isLoad (answerOf x)) (written w (writesOf x)) w
 
-pub record Loaded (x : Lent) (p : Plan) : Type 0 where
+pub record PlanOfLoad (x : Lent) (p : Plan) : Type 0 where
   pub load : isLoad (answerOf x) ≡ true
   pub plan : p ≡ planIn x

@@ -11,29 +11,29 @@ use Prim.Native.Nat.{ℕ, _+_, _-_, _^_, _≤_, _<_}
 use native.Mathlib.Omega.{arith}
 use lib.ListN.{length}
 use Rattle.laws.specs.Table.{listed}
-use Rattle.memory.specs.Patched.{patched}
-use Rattle.memory.specs.Writes.{written}
-use Rattle.memory.specs.WritesLaws.{written-append}
+use Rattle.buffer.specs.Patched.{patched}
+use Rattle.buffer.specs.Writes.{written}
+use Rattle.buffer.specs.WritesLaws.{written-append}
 use Rattle.address.specs.declared.Span.{Span}
 use Rattle.address.specs.Address.{spanNo}
 use Rattle.answer.specs.Answer.{isLoad}
 use Rattle.submission.specs.declared.Layout.{Layout}
-use Rattle.submission.specs.declared.Parsed.{Parsed}
-use Rattle.submission.specs.Format.{moduleLimit, moduleCount, bytesOf}
+use Rattle.submission.specs.declared.ParsedSubmission.{ParsedSubmission}
+use Rattle.submission.specs.Format.{maxModules, moduleCount, bytesOf}
 use Rattle.submission.specs.FormatLaws.{layout-count, module-at}
-use Rattle.submission.specs.Rules.{parsed}
+use Rattle.submission.specs.Rules.{parsedSubmission}
 use Rattle.submission.specs.RuleLaws.{parsed-layout, string-inside}
-use Rattle.information.specs.Information.{blockOf}
-use Rattle.information.specs.Writing.{SpansLow, StringsIn, Room}
-use Rattle.image.specs.Judged.{segmentLimit}
+use Rattle.block.specs.Block.{blockOf}
+use Rattle.block.specs.Writing.{SpansLow, StringsIn, Room}
+use Rattle.image.specs.Judged.{maxSegments}
 use Rattle.decision.specs.declared.Plan.{Plan}
 use Rattle.decision.specs.Lent.{Lent, layoutIn, kernelIn, lineIn}
 use Rattle.decision.specs.declared.Decision.{Decision}
 use Rattle.decision.specs.Decided.{planOf, decidedBy}
 use Rattle.decision.specs.Decision.{answerOf, planIn, decisionOf}
 use Rattle.decision.specs.DecisionLaws.{prepared}
-use Rattle.loader.specs.Memory.{segmentWrite, moduleWrite, contentsFor, contentsIn, blockWrite, segmentWrites, moduleWrites, writesOf, memoryAfter, Loaded}
-use Rattle.loader.specs.LoadLaws.{Loads, spanIn, span-inside, module-span, block-span, block-length}
+use Rattle.loader.specs.Memory.{segmentWrite, moduleWrite, contentsFor, contentsIn, blockWrite, segmentWrites, moduleWrites, writesOf, memoryAfter, PlanOfLoad}
+use Rattle.loader.specs.LoadLaws.{Loads, spanIn, span-inside, module-span, block-span, block-span-length}
 
 module _ (x : Lent) (h : Loads x) where
   module-inside : (i : ℕ) → i < layoutIn x .count → (spanNo (planIn x .modules) i .start .0 < 2 ^ 32) × (spanNo (planIn x .modules) i .end .0 < 2 ^ 32)
@@ -58,20 +58,20 @@ module _ (x : Lent) (h : Loads x) where
       let s = span-inside x h (kernelIn x .count + layoutIn x .count) (omega arith) in
       let p : planIn x .block .start .0 ≡ spanIn x (kernelIn x .count + layoutIn x .count) .start .0 = ap (λ (t : Span). t .start .0) (block-span x h) in
       let q : planIn x .block .end .0 ≡ spanIn x (kernelIn x .count + layoutIn x .count) .end .0 = ap (λ (t : Span). t .end .0) (block-span x h) in
-      let n = block-length x h in
+      let n = block-span-length x h in
       record { low = omega (arith, s .top); inside = omega (arith, s .low, s .high) }
 
   -- the layout read again is the load's
-  pub layout-read : (r : Parsed) → r ≡ parsed (x .submission) → r .layout ≡ layoutIn x
+  pub layout-read : (r : ParsedSubmission) → r ≡ parsedSubmission (x .submission) → r .layout ≡ layoutIn x
   layout-read r e = rw e (parsed-layout (x .submission) (h .passed .rules))
 
 -- the plan and the layout as they are handed over
 module _ (x : Lent) (h : Loads x) (p : Plan) (l : Layout) (pe : p ≡ planIn x) (le : l ≡ layoutIn x) where
-  pub few-segments : p .kernel .count ≤ segmentLimit
+  pub few-segments : p .kernel .count ≤ maxSegments
   unfolding planOf
   few-segments = rw pe (prepared x (h .passed) .segments)
 
-  pub few-modules : l .count ≤ moduleLimit
+  pub few-modules : l .count ≤ maxModules
   few-modules = rw le (prepared x (h .passed) .modules)
 
   pub block-ready : (size : ℕ) → size ≡ x .size
@@ -100,7 +100,7 @@ module _ (x : Lent) (d : Decision) (e : d ≡ decisionOf x) where
   unfolding decisionOf decidedBy
   answer-is = rw e refl
 
-  pub decision-loaded : isLoad (d .answer) ≡ true → Loaded x (d .plan)
+  pub decision-loaded : isLoad (d .answer) ≡ true → PlanOfLoad x (d .plan)
   unfolding decisionOf decidedBy
   decision-loaded h =
       let l : isLoad (answerOf x) ≡ true = sym answer-is ∙ h in

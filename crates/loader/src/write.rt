@@ -10,14 +10,14 @@ ghost use mathlib.Core.List.{_++_};
 ghost use Prim.Native.Nat.{_+_, _-_, _≤_};
 ghost use lib.ListN.{length};
 ghost use Rattle.laws.specs.Table.{listed};
-ghost use Rattle.memory.specs.Patched.{patched, zeros};
-ghost use Rattle.memory.specs.Writes.{written};
-ghost use Rattle.submission.specs.Format.{moduleLimit};
+ghost use Rattle.buffer.specs.Patched.{patched, zeros};
+ghost use Rattle.buffer.specs.Writes.{written};
+ghost use Rattle.submission.specs.Format.{maxModules};
 ghost use Rattle.command_line.specs.CommandLine.{commandLine};
-ghost use Rattle.information.specs.Information.{blockOf};
-ghost use Rattle.information.specs.Writing.{SpansLow, StringsIn, Room};
-ghost use Rattle.image.specs.Judged.{segmentLimit};
-ghost use Rattle.loader.specs.Memory.{segmentWrite, moduleWrite, contentsFor, writesOf, Loaded};
+ghost use Rattle.block.specs.Block.{blockOf};
+ghost use Rattle.block.specs.Writing.{SpansLow, StringsIn, Room};
+ghost use Rattle.image.specs.Judged.{maxSegments};
+ghost use Rattle.loader.specs.Memory.{segmentWrite, moduleWrite, contentsFor, writesOf, PlanOfLoad};
 
 // Writes everything of a load: the kernel, the modules, and the information block.
 pub fn write_load<'a>(
@@ -28,7 +28,7 @@ pub fn write_load<'a>(
     map: &[u8],
     plan: Plan,
 )
-    requires { ⌜ Loaded (record { submission = now submission; operator = now operator; map = now map; first = first; size = length (now window) }) plan ⌝ }
+    requires { ⌜ PlanOfLoad (record { submission = now submission; operator = now operator; map = now map; first = first; size = length (now window) }) plan ⌝ }
     ensures { λ _. ⌜ now (window .exit) ≡ written (now (window .entry)) (writesOf (record { submission = now (submission .entry); operator = now (operator .entry); map = now (map .entry); first = first; size = length (now (window .entry)) })) ⌝ }
 {
     let base = PhysAddr(first as u64);
@@ -41,7 +41,7 @@ pub fn write_load<'a>(
     write_kernel(window, base, image, kernel);
     write_modules(window, base, submission, layout, modules);
     let start = block.start;
-    write_information(
+    write_block(
         window,
         base,
         submission,
@@ -54,26 +54,26 @@ pub fn write_load<'a>(
 }
 
 // Writes the information block, which stands from the address `start` on.
-fn write_information<'a>(
+fn write_block<'a>(
     window: &mut [u8],
     base: PhysAddr,
     submission: &'a [u8],
     operator: &'a [u8],
     map: &[u8],
     layout: Layout,
-    modules: [Span; submission::MODULES],
+    modules: [Span; submission::MAX_MODULES],
     start: PhysAddr,
 )
     requires { ⌜ SpansLow layout modules × StringsIn (now submission) layout × Room layout (length (now map)) (length (commandLine (now operator) (now submission))) (start .0) (start .0 - base .0) (length (now window)) ⌝ }
     ensures { λ _. ⌜ now (window .exit) ≡ patched (now (window .entry)) (start .0 - base .0) (blockOf (contentsFor (now (submission .entry)) (now (operator .entry)) (now (map .entry)) layout modules (start .0))) ⌝ }
 {
     let line = command_line::in_force(operator, submission);
-    let parsed = memory_map::parse::parse(map);
+    let parsed = memory_map::parse(map);
     let pairs = parsed.map;
     let lower = usable::sizes::mem_lower(pairs);
     let upper = usable::sizes::mem_upper(pairs);
     let at = start.offset_from(base);
-    information::write::write_block(
+    block::write::write_block(
         window,
         at,
         submission,
@@ -89,7 +89,7 @@ fn write_information<'a>(
 
 // Writes the kernel's segments: their load bytes, and zeros over the bss.
 fn write_kernel(window: &mut [u8], base: PhysAddr, image: &[u8], kernel: Kernel)
-    requires { ⌜ kernel .count ≤ segmentLimit ⌝ }
+    requires { ⌜ kernel .count ≤ maxSegments ⌝ }
     ensures { λ _. ⌜ now (window .exit) ≡ written (now (window .entry)) (listed (segmentWrite (base .0) (now (image .entry)) kernel) (kernel .count)) ⌝ }
 {
     let mut i = 0;
@@ -101,20 +101,20 @@ fn write_kernel(window: &mut [u8], base: PhysAddr, image: &[u8], kernel: Kernel)
 
 // Writes one segment.
 fn write_segment(window: &mut [u8], base: PhysAddr, image: &[u8], kernel: Kernel, i: usize)
-    requires { ⌜ i + 1 ≤ segmentLimit ⌝ }
+    requires { ⌜ i + 1 ≤ maxSegments ⌝ }
     ensures { λ _. ⌜ now (window .exit) ≡ patched (now (window .entry)) (segmentWrite (base .0) (now (image .entry)) kernel i .at) (segmentWrite (base .0) (now (image .entry)) kernel i .bytes) ⌝ }
 {
     let segment = kernel.segments[i];
     let part = Part {
         at: segment.offset.0,
-        len: segment.loaded.offset_from(segment.start),
+        len: segment.load_end.offset_from(segment.start),
     };
     let bytes = submission::bytes_of(image, part);
     write_filled(
         window,
         segment.start.offset_from(base),
         bytes,
-        segment.end.offset_from(segment.loaded),
+        segment.extent_end.offset_from(segment.load_end),
     );
 }
 
@@ -125,8 +125,8 @@ fn write_filled(window: &mut [u8], at: usize, bytes: &[u8], count: usize)
     if window.len() <= at {
         return;
     }
-    memory::write_bytes(window, at, bytes);
-    memory::write_zeros(window, at + bytes.len(), count);
+    buffer::write_bytes(window, at, bytes);
+    buffer::write_zeros(window, at + bytes.len(), count);
 }
 
 // Writes the modules' data.
@@ -135,9 +135,9 @@ fn write_modules(
     base: PhysAddr,
     submission: &[u8],
     layout: Layout,
-    spans: [Span; submission::MODULES],
+    spans: [Span; submission::MAX_MODULES],
 )
-    requires { ⌜ layout .count ≤ moduleLimit ⌝ }
+    requires { ⌜ layout .count ≤ maxModules ⌝ }
     ensures { λ _. ⌜ now (window .exit) ≡ written (now (window .entry)) (listed (moduleWrite (base .0) (now (submission .entry)) layout spans) (layout .count)) ⌝ }
 {
     let mut i = 0;
@@ -145,7 +145,7 @@ fn write_modules(
         let module = layout.modules[i];
         let span = spans[i];
         let data = submission::bytes_of(submission, module.data);
-        memory::write_bytes(window, span.start.offset_from(base), data);
+        buffer::write_bytes(window, span.start.offset_from(base), data);
         i += 1;
     }
 }

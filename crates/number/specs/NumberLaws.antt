@@ -13,8 +13,8 @@ use native.Mathlib.Omega.{arith}
 use lib.ListN.{length, take, drop, getD, length-append, length-take, length-drop, drop-of-length-le}
 use lib.Seq.{drop-nil, getD-drop, drop-append-add}
 use lib.Pow.{pow-pos, pow-add, pow-mono}
-use Rattle.memory.specs.Patched.{patched}
-use Rattle.memory.specs.PatchedLaws.{patched-nil, patched-past, take-patched, drop-patched, drop-inside}
+use Rattle.buffer.specs.Patched.{patched}
+use Rattle.buffer.specs.PatchedLaws.{patched-nil, patched-past, take-patched, drop-patched, drop-inside}
 use Rattle.number.specs.Number.{number, numberAt, numberBytes, wordBytes}
 
 -- every element is a byte

@@ -2,7 +2,7 @@
 ghost use mathlib.Core.Path.{_≡_};
 ghost use Prim.Native.Nat.{_+_, _*_, _^_, _≤_, _<_};
 ghost use lib.ListN.{length};
-ghost use Rattle.memory.specs.Patched.{patched};
+ghost use Rattle.buffer.specs.Patched.{patched};
 ghost use Rattle.number.specs.Number.{numberAt, numberBytes, wordBytes};
 
 // The number of `width` bytes at the offset `at`, lowest byte first.
@@ -63,7 +63,7 @@ pub fn write_u32(dst: &mut [u8], at: usize, x: u32)
         (x2 % 256) as u8,
         (x3 % 256) as u8,
     ];
-    memory::write_bytes(dst, at, &bytes);
+    buffer::write_bytes(dst, at, &bytes);
 }
 
 // Writes a row of words into dst from the offset `at` on, four bytes each; what would fall past the end is left out.

@@ -10,5 +10,5 @@ pub mod Order
 pub mod OrderLaws
 pub mod PlacingLaws
 pub mod Ready
-pub mod Walk
-pub mod Steps
+pub mod WalkLaws
+pub mod StepLaws

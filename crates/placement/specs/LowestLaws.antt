@@ -17,11 +17,11 @@ use Rattle.laws.specs.First.{Found, none, at, Lowest}
 use Rattle.laws.specs.FirstLaws.{first-at, first-none, at-lowest, none-lowest}
 use Rattle.address.specs.declared.PhysAddr.{PhysAddr}
 use Rattle.address.specs.Address.{floor, isMultiple}
-use Rattle.usable.specs.Usable.{limit}
+use Rattle.usable.specs.Usable.{addressSpace}
 use Rattle.placement.specs.declared.Spans.{Spans}
 use Rattle.placement.specs.declared.Item.{Item}
 use Rattle.placement.specs.declared.Place.the-variants.{At, NoRoom}
-use Rattle.placement.specs.Free.{freeAt}
+use Rattle.placement.specs.Free.{isFree}
 use Rattle.placement.specs.FreeLaws.{Free, free-is}
 use Rattle.placement.specs.Placing.{Suits}
 use Rattle.placement.specs.Lowest.{fits, lowest, placeOf, lowestPlace}
@@ -37,40 +37,40 @@ place-none none e = refl
 place-none (at b) e = let z : _≡_ {A = ℕ} 0 1 = cc in absurd (omega arith)
 
 module _ (o : ℕ → Bool) (t : Spans) (q : Item) where
-  pub suits-is : (a : ℕ) → ((floor ≤ a) × (fits (freeAt o t) q a ≡ true)) ↔ Suits o t q a
+  pub suits-is : (a : ℕ) → ((floor ≤ a) × (fits (isFree o t) q a ≡ true)) ↔ Suits o t q a
   unfolding fits isMultiple
   suits-is a =
       let M : Bool = eqb (a % q .boundary) 0 in
-      let F : Bool = allFrom (freeAt o t) a (q .length) in (
+      let F : Bool = allFrom (isFree o t) a (q .length) in (
         λ e.
-            let h : (y : ℕ) → a ≤ y → y < a + q .length → Free o t y = λ y l u. free-is o t y .0 (all-elim (freeAt o t) a (q .length) (and-right M F (e .1)) y l u) in
+            let h : (y : ℕ) → a ≤ y → y < a + q .length → Free o t y = λ y l u. free-is o t y .0 (all-elim (isFree o t) a (q .length) (and-right M F (e .1)) y l u) in
             record {
               low = e .0;
               boundary = eqb-true _ _ (and-left M F (e .1));
               opened = λ y l u. h y l u .opened;
               apart = λ y l u. h y l u .apart;
             },
-        λ h. (h .low, rw (eq-eqb _ _ (h .boundary)) (all-intro (freeAt o t) a (q .length) (λ y l u. free-is o t y .1 (record { opened = h .opened y l u; apart = h .apart y l u })))),
+        λ h. (h .low, rw (eq-eqb _ _ (h .boundary)) (all-intro (isFree o t) a (q .length) (λ y l u. free-is o t y .1 (record { opened = h .opened y l u; apart = h .apart y l u })))),
       )
 
-  no-fit : (a : ℕ) → floor ≤ a → (fits (freeAt o t) q a ≡ false) ↔ (Suits o t q a → ⊥)
+  no-fit : (a : ℕ) → floor ≤ a → (fits (isFree o t) q a ≡ false) ↔ (Suits o t q a → ⊥)
   no-fit a l = (
     λ e h. false≢true (sym e ∙ suits-is a .1 h .1),
-    λ h. ⊎-elim (λ e. absurd (h (suits-is a .0 (l, e)))) (λ e. e) (true-or-false (fits (freeAt o t) q a)),
+    λ h. ⊎-elim (λ e. absurd (h (suits-is a .0 (l, e)))) (λ e. e) (true-or-false (fits (isFree o t) q a)),
   )
 
-  found : (a : PhysAddr) → lowestPlace o t q ≡ At a → Lowest (fits (freeAt o t) q) (limit - floor) floor (at (a .0))
+  found : (a : PhysAddr) → lowestPlace o t q ≡ At a → Lowest (fits (isFree o t) q) (addressSpace - floor) floor (at (a .0))
   unfolding lowestPlace lowest
-  found a e = at-lowest (fits (freeAt o t) q) (limit - floor) floor (a .0) (place-at _ a e)
+  found a e = at-lowest (fits (isFree o t) q) (addressSpace - floor) floor (a .0) (place-at _ a e)
 
-  pub place-below : (a : PhysAddr) → lowestPlace o t q ≡ At a → a .0 < limit
+  pub place-below : (a : PhysAddr) → lowestPlace o t q ≡ At a → a .0 < addressSpace
   place-below a e = omega (arith, found a e .1)
 
   pub place-suits : (a : PhysAddr) → lowestPlace o t q ≡ At a → Suits o t q (a .0)
   place-suits a e = suits-is (a .0) .0 (found a e .0, found a e .2)
 
-  module _ (small : (a : ℕ) → o a ≡ true → a < limit) where
-    pub place-end : (a : PhysAddr) → lowestPlace o t q ≡ At a → a .0 + q .length ≤ limit
+  module _ (small : (a : ℕ) → o a ≡ true → a < addressSpace) where
+    pub place-end : (a : PhysAddr) → lowestPlace o t q ≡ At a → a .0 + q .length ≤ addressSpace
     place-end a e =
         ⊎-elim
         (λ l. omega (arith, small (a .0 + (q .length - 1)) (place-suits a e .opened (a .0 + (q .length - 1)) (omega arith) (omega arith))))
@@ -78,7 +78,7 @@ module _ (o : ℕ → Bool) (t : Spans) (q : Item) where
         (lt-or-le 0 (q .length))
 
     module _ (some : 0 < q .length) where
-      below-limit : (a : ℕ) → Suits o t q a → a < limit
+      below-limit : (a : ℕ) → Suits o t q a → a < addressSpace
       below-limit a h = small a (h .opened a (omega arith) (omega arith))
 
       pub place-lowest : (a : PhysAddr) → (lowestPlace o t q ≡ At a) ↔ (Suits o t q (a .0) × ((s : ℕ) → s < a .0 → Suits o t q s → ⊥))
@@ -93,6 +93,6 @@ module _ (o : ℕ → Bool) (t : Spans) (q : Item) where
       pub no-room : (lowestPlace o t q ≡ NoRoom) ↔ ((s : ℕ) → Suits o t q s → ⊥)
       unfolding lowestPlace lowest
       no-room = (
-        λ e s h. no-fit s (h .low) .0 (none-lowest (fits (freeAt o t) q) (limit - floor) floor (place-none _ e) s (h .low) (omega (arith, below-limit s h))) h,
+        λ e s h. no-fit s (h .low) .0 (none-lowest (fits (isFree o t) q) (addressSpace - floor) floor (place-none _ e) s (h .low) (omega (arith, below-limit s h))) h,
         λ h. ap placeOf (first-none _ _ _ (λ s l u. no-fit s l .1 (h s))),
       )

@@ -1,6 +1,6 @@
 -- The items of a load placed in order.                                                            rule: PLACING
 --     maxItems              how many items there are at most: 16 modules and the information block
---     noItem, itemAt        an item of zeros, and the item of an index
+--     noItem, itemNo        an item of zeros, and the item of an index
 --     spanOf, withSpan      the span of an item at its place, and the spans with one more
 --     placedFrom    k items from the item i on, each at its lowest place beside the spans before it, up to the first with no room
 --     placeItems    all items placed beside the spans taken
@@ -24,8 +24,8 @@ maxItems = 17
 abbrev pub noItem : Item
 noItem = record { length = 0; boundary = 0 }
 
-abbrev pub itemAt : Items → ℕ → Item
-itemAt q i = getD (q .list) i noItem
+abbrev pub itemNo : Items → ℕ → Item
+itemNo q i = getD (q .list) i noItem
 
 -- from the address a on, an item of length n takes a up to but not including a + n
 abbrev pub spanOf : PhysAddr → ℕ → Span
@@ -42,8 +42,8 @@ after NoRoom rest stop = stop
 unfoldable pub placedFrom : (ℕ → Bool) → Items → ℕ → ℕ → Spans → Placed
 placedFrom o q zero i t = record { spans = t; done = i }
 placedFrom o q (suc k) i t =
-    after (lowestPlace o t (itemAt q i))
-    (λ a. placedFrom o q k (i + 1) (withSpan t (spanOf a (itemAt q i .length))))
+    after (lowestPlace o t (itemNo q i))
+    (λ a. placedFrom o q k (i + 1) (withSpan t (spanOf a (itemNo q i .length))))
     (record { spans = t; done = i })
 
 unfoldable pub placeItems : (ℕ → Bool) → Spans → Items → Placed

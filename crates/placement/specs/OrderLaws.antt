@@ -17,11 +17,11 @@ use Rattle.placement.specs.declared.Spans.{Spans}
 use Rattle.placement.specs.declared.Item.{Item}
 use Rattle.placement.specs.declared.Items.{Items}
 use Rattle.placement.specs.declared.Place.the-variants.{At, NoRoom}
-use Rattle.placement.specs.Free.{spanAt}
+use Rattle.address.specs.Address.{spanNo}
 use Rattle.address.specs.InsideLaws.{Holds}
 use Rattle.placement.specs.Lowest.{lowestPlace}
 use Rattle.placement.specs.Placing.{Suits}
-use Rattle.placement.specs.Order.{itemAt, spanOf, withSpan, placedFrom}
+use Rattle.placement.specs.Order.{itemNo, spanOf, withSpan, placedFrom}
 
 module _ (t : Spans) (s : Span) where
   pub with-count : withSpan t s .count ≡ t .count + 1
@@ -32,17 +32,17 @@ module _ (t : Spans) (s : Span) where
   unfolding withSpan
   with-length = simp length-set
 
-  pub with-keeps : (i : ℕ) → i < t .count → spanAt (withSpan t s) i ≡ spanAt t i
+  pub with-keeps : (i : ℕ) → i < t .count → spanNo (withSpan t s .list) i ≡ spanNo (t .list) i
   unfolding withSpan
   with-keeps i l = let ne : i ≢ t .count = λ z. omega arith in rw getD-set-other
 
-  pub with-new : t .count < length (t .list) → spanAt (withSpan t s) (t .count) ≡ s
+  pub with-new : t .count < length (t .list) → spanNo (withSpan t s .list) (t .count) ≡ s
   unfolding withSpan
   with-new l = rw getD-set-same
 
 module _ (o : ℕ → Bool) (q : Item) (a : ℕ) where
   -- beside fewer spans, all of which are there already, an address suits still
-  pub suits-fewer : (t u : Spans) → u .count ≤ t .count → ((i : ℕ) → i < u .count → spanAt t i ≡ spanAt u i) → Suits o t q a → Suits o u q a
+  pub suits-fewer : (t u : Spans) → u .count ≤ t .count → ((i : ℕ) → i < u .count → spanNo (t .list) i ≡ spanNo (u .list) i) → Suits o t q a → Suits o u q a
   suits-fewer t u l e h =
       record {
         low = h .low;
@@ -72,13 +72,13 @@ module _ (o : ℕ → Bool) (q : Item) (a : ℕ) where
   )
 
 module _ (o : ℕ → Bool) (q : Items) (c i : ℕ) (t : Spans) where
-  pub from-at : (a : PhysAddr) → i < c → lowestPlace o t (itemAt q i) ≡ At a → placedFrom o q (c - i) i t ≡ placedFrom o q (c - (i + 1)) (i + 1) (withSpan t (spanOf a (itemAt q i .length)))
+  pub from-at : (a : PhysAddr) → i < c → lowestPlace o t (itemNo q i) ≡ At a → placedFrom o q (c - i) i t ≡ placedFrom o q (c - (i + 1)) (i + 1) (withSpan t (spanOf a (itemNo q i .length)))
   unfolding placedFrom
   from-at a l e =
       let s : c - i ≡ suc (c - (i + 1)) = omega arith in
       rw (s, e)
 
-  pub from-none : i < c → lowestPlace o t (itemAt q i) ≡ NoRoom → placedFrom o q (c - i) i t ≡ record { spans = t; done = i }
+  pub from-none : i < c → lowestPlace o t (itemNo q i) ≡ NoRoom → placedFrom o q (c - i) i t ≡ record { spans = t; done = i }
   unfolding placedFrom
   from-none l e =
       let s : c - i ≡ suc (c - (i + 1)) = omega arith in

@@ -11,21 +11,20 @@ use mathlib.Core.Path.{_≡_}
 use mathlib.Core.Bool.{Bool, true}
 use mathlib.Core.Logic.{_↔_}
 use Prim.Native.Nat.{ℕ, _+_, _%_, _≤_, _<_}
-use Rattle.address.specs.Address.{floor}
+use Rattle.address.specs.Address.{floor, spanNo}
 use Rattle.placement.specs.declared.Spans.{Spans}
 use Rattle.placement.specs.declared.Item.{Item}
 use Rattle.placement.specs.declared.Items.{Items}
 use Rattle.placement.specs.declared.Placed.{Placed}
-use Rattle.placement.specs.Free.{spanAt}
 use Rattle.address.specs.InsideLaws.{Holds}
-use Rattle.placement.specs.Order.{itemAt}
+use Rattle.placement.specs.Order.{itemNo}
 
 -- the item q may be placed at a: from the floor up, on its boundary, each of its addresses open and in no span taken
 pub record Suits (o : ℕ → Bool) (t : Spans) (q : Item) (a : ℕ) : Type 0 where
   pub low : floor ≤ a
   pub boundary : a % q .boundary ≡ 0
   pub opened : (y : ℕ) → a ≤ y → y < a + q .length → o y ≡ true
-  pub apart : (y : ℕ) → a ≤ y → y < a + q .length → (i : ℕ) → i < t .count → Holds (spanAt t i) y → ⊥
+  pub apart : (y : ℕ) → a ≤ y → y < a + q .length → (i : ℕ) → i < t .count → Holds (spanNo (t .list) i) y → ⊥
 
 -- the first k of the spans
 abbrev pub upTo : Spans → ℕ → Spans
@@ -33,20 +32,20 @@ upTo t k = record { list = t .list; count = k }
 
 -- the item q stands in the span of the index c
 pub record Stands (o : ℕ → Bool) (t : Spans) (c : ℕ) (q : Item) : Type 0 where
-  pub suits : Suits o (upTo t c) q (spanAt t c .start .0)
-  pub lowest : (s : ℕ) → s < spanAt t c .start .0 → Suits o (upTo t c) q s → ⊥
-  pub length : spanAt t c .end .0 ≡ spanAt t c .start .0 + q .length
+  pub suits : Suits o (upTo t c) q (spanNo (t .list) c .start .0)
+  pub lowest : (s : ℕ) → s < spanNo (t .list) c .start .0 → Suits o (upTo t c) q s → ⊥
+  pub length : spanNo (t .list) c .end .0 ≡ spanNo (t .list) c .start .0 + q .length
 
 -- r is what placing the items q beside the spans t leaves
 pub record InOrder (o : ℕ → Bool) (t : Spans) (q : Items) (r : Placed) : Type 0 where
   -- the spans taken stay, and behind them comes one for each item placed
   pub done : r .done ≤ q .count
   pub count : r .spans .count ≡ t .count + r .done
-  pub kept : (j : ℕ) → j < t .count → spanAt (r .spans) j ≡ spanAt t j
+  pub kept : (j : ℕ) → j < t .count → spanNo (r .spans .list) j ≡ spanNo (t .list) j
   -- each item placed stands at its lowest place beside the spans taken and the items before it
-  pub stands : (i : ℕ) → i < r .done → Stands o (r .spans) (t .count + i) (itemAt q i)
+  pub stands : (i : ℕ) → i < r .done → Stands o (r .spans) (t .count + i) (itemNo q i)
   -- with the items before it placed, placing ends at an item exactly where no address suits it beside them
-  pub ends : (i : ℕ) → i < q .count → i ≤ r .done → (r .done ≡ i) ↔ ((s : ℕ) → Suits o (upTo (r .spans) (t .count + i)) (itemAt q i) s → ⊥)
+  pub ends : (i : ℕ) → i < q .count → i ≤ r .done → (r .done ≡ i) ↔ ((s : ℕ) → Suits o (upTo (r .spans) (t .count + i)) (itemNo q i) s → ⊥)
   -- an item placed lies wholly in open memory, and shares no address with a span taken or an item before it
-  pub opened : (j : ℕ) → t .count ≤ j → j < r .spans .count → (a : ℕ) → Holds (spanAt (r .spans) j) a → o a ≡ true
-  pub apart : (i j : ℕ) → i < j → t .count ≤ j → j < r .spans .count → (a : ℕ) → Holds (spanAt (r .spans) i) a → Holds (spanAt (r .spans) j) a → ⊥
+  pub opened : (j : ℕ) → t .count ≤ j → j < r .spans .count → (a : ℕ) → Holds (spanNo (r .spans .list) j) a → o a ≡ true
+  pub apart : (i j : ℕ) → i < j → t .count ≤ j → j < r .spans .count → (a : ℕ) → Holds (spanNo (r .spans .list) i) a → Holds (spanNo (r .spans .list) j) a → ⊥

@@ -11,21 +11,21 @@ use native.Mathlib.Omega.{arith}
 use lib.ListN.{length}
 use Rattle.address.specs.declared.PhysAddr.{PhysAddr}
 use Rattle.address.specs.declared.Span.{Span}
-use Rattle.usable.specs.Usable.{limit}
+use Rattle.usable.specs.Usable.{addressSpace}
 use Rattle.board.specs.declared.Board.{Board}
-use Rattle.board.specs.Open.{openAt}
+use Rattle.board.specs.Open.{isOpen}
 use Rattle.board.specs.OpenLaws.{Open, open-is, open-below}
 use Rattle.placement.specs.declared.Spans.{Spans}
 use Rattle.placement.specs.declared.Items.{Items}
 use Rattle.placement.specs.declared.Place.{Place}
 use Rattle.placement.specs.declared.Place.the-variants.{At, NoRoom}
 use Rattle.placement.specs.declared.Placed.{Placed}
-use Rattle.placement.specs.Free.{spanAt}
+use Rattle.address.specs.Address.{spanNo}
 use Rattle.placement.specs.Placing.{Suits, Stands, InOrder, upTo}
 use Rattle.address.specs.InsideLaws.{Holds}
 use Rattle.placement.specs.Lowest.{lowestPlace}
 use Rattle.placement.specs.LowestLaws.{place-lowest, no-room}
-use Rattle.placement.specs.Order.{itemAt, spanOf, withSpan, placedFrom, placeItems}
+use Rattle.placement.specs.Order.{itemNo, spanOf, withSpan, placedFrom, placeItems}
 use Rattle.placement.specs.OrderLaws.{with-count, with-length, with-keeps, with-new, suits-fewer}
 
 place-cases : (p : Place) → ((a : PhysAddr) × (p ≡ At a)) ⊎ (p ≡ NoRoom)
@@ -37,49 +37,49 @@ record From (o : ℕ → Bool) (q : Items) (k i : ℕ) (t : Spans) (r : Placed) 
   least : i ≤ r .done
   most : r .done ≤ i + k
   count : r .spans .count + i ≡ t .count + r .done
-  kept : (j : ℕ) → j < t .count → spanAt (r .spans) j ≡ spanAt t j
-  stands : (j : ℕ) → i + j < r .done → Stands o (r .spans) (t .count + j) (itemAt q (i + j))
-  stopped : r .done < i + k → (s : ℕ) → Suits o (r .spans) (itemAt q (r .done)) s → ⊥
+  kept : (j : ℕ) → j < t .count → spanNo (r .spans .list) j ≡ spanNo (t .list) j
+  stands : (j : ℕ) → i + j < r .done → Stands o (r .spans) (t .count + j) (itemNo q (i + j))
+  stopped : r .done < i + k → (s : ℕ) → Suits o (r .spans) (itemNo q (r .done)) s → ⊥
 
-module _ (o : ℕ → Bool) (small : (a : ℕ) → o a ≡ true → a < limit) (q : Items) (some : (i : ℕ) → i < q .count → 0 < itemAt q i .length) where
+module _ (o : ℕ → Bool) (small : (a : ℕ) → o a ≡ true → a < addressSpace) (q : Items) (some : (i : ℕ) → i < q .count → 0 < itemNo q i .length) where
   step-end : (i : ℕ) (t : Spans) → placedFrom o q zero i t ≡ record { spans = t; done = i }
   unfolding placedFrom
   step-end i t = refl
 
-  step-none : (k i : ℕ) (t : Spans) → lowestPlace o t (itemAt q i) ≡ NoRoom → placedFrom o q (suc k) i t ≡ record { spans = t; done = i }
+  step-none : (k i : ℕ) (t : Spans) → lowestPlace o t (itemNo q i) ≡ NoRoom → placedFrom o q (suc k) i t ≡ record { spans = t; done = i }
   unfolding placedFrom
   step-none k i t e = rw e
 
-  step-at : (k i : ℕ) (t : Spans) (a : PhysAddr) → lowestPlace o t (itemAt q i) ≡ At a → placedFrom o q (suc k) i t ≡ placedFrom o q k (i + 1) (withSpan t (spanOf a (itemAt q i .length)))
+  step-at : (k i : ℕ) (t : Spans) (a : PhysAddr) → lowestPlace o t (itemNo q i) ≡ At a → placedFrom o q (suc k) i t ≡ placedFrom o q k (i + 1) (withSpan t (spanOf a (itemNo q i .length)))
   unfolding placedFrom
   step-at k i t a e = rw e
 
   -- the item i has the place a, and placing the rest leaves r
-  module _ (k i : ℕ) (t : Spans) (a : PhysAddr) (r : Placed) (e : lowestPlace o t (itemAt q i) ≡ At a) (n : i < q .count) (room : t .count < length (t .list)) (h : From o q k (i + 1) (withSpan t (spanOf a (itemAt q i .length))) r) where
-    keeps : (j : ℕ) → j < t .count → spanAt (r .spans) j ≡ spanAt t j
-    keeps j l = h .kept j (omega (arith, with-count t (spanOf a (itemAt q i .length)))) ∙ with-keeps t (spanOf a (itemAt q i .length)) j l
+  module _ (k i : ℕ) (t : Spans) (a : PhysAddr) (r : Placed) (e : lowestPlace o t (itemNo q i) ≡ At a) (n : i < q .count) (room : t .count < length (t .list)) (h : From o q k (i + 1) (withSpan t (spanOf a (itemNo q i .length))) r) where
+    keeps : (j : ℕ) → j < t .count → spanNo (r .spans .list) j ≡ spanNo (t .list) j
+    keeps j l = h .kept j (omega (arith, with-count t (spanOf a (itemNo q i .length)))) ∙ with-keeps t (spanOf a (itemNo q i .length)) j l
 
-    here : spanAt (r .spans) (t .count) ≡ spanOf a (itemAt q i .length)
-    here = h .kept (t .count) (omega (arith, with-count t (spanOf a (itemAt q i .length)))) ∙ with-new t (spanOf a (itemAt q i .length)) room
+    here : spanNo (r .spans .list) (t .count) ≡ spanOf a (itemNo q i .length)
+    here = h .kept (t .count) (omega (arith, with-count t (spanOf a (itemNo q i .length)))) ∙ with-new t (spanOf a (itemNo q i .length)) room
 
-    stood : Stands o (r .spans) (t .count) (itemAt q i)
+    stood : Stands o (r .spans) (t .count) (itemNo q i)
     stood =
-        let p = place-lowest o t (itemAt q i) small (some i n) a .0 e in
+        let p = place-lowest o t (itemNo q i) small (some i n) a .0 e in
         record {
-          suits = rw here (suits-fewer o (itemAt q i) (a .0) t (upTo (r .spans) (t .count)) (omega arith) (λ j l. sym (keeps j l)) (p .0));
-          lowest = λ s l u. p .1 s (rw here at l) (suits-fewer o (itemAt q i) s (upTo (r .spans) (t .count)) t (omega arith) keeps u);
+          suits = rw here (suits-fewer o (itemNo q i) (a .0) t (upTo (r .spans) (t .count)) (omega arith) (λ j l. sym (keeps j l)) (p .0));
+          lowest = λ s l u. p .1 s (rw here at l) (suits-fewer o (itemNo q i) s (upTo (r .spans) (t .count)) t (omega arith) keeps u);
           length = rw here refl;
         }
 
-    stands-on : (j : ℕ) → i + j < r .done → Stands o (r .spans) (t .count + j) (itemAt q (i + j))
+    stands-on : (j : ℕ) → i + j < r .done → Stands o (r .spans) (t .count + j) (itemNo q (i + j))
     stands-on zero l = rw (add-zero, add-zero) stood
     stands-on (suc j) l =
-        let c = with-count t (spanOf a (itemAt q i .length)) in
-        subst₂ (λ (x y : ℕ). Stands o (r .spans) x (itemAt q y)) (omega arith) (omega arith) (h .stands j (omega arith))
+        let c = with-count t (spanOf a (itemNo q i .length)) in
+        subst₂ (λ (x y : ℕ). Stands o (r .spans) x (itemNo q y)) (omega arith) (omega arith) (h .stands j (omega arith))
 
     from-step : From o q (suc k) i t r
     from-step =
-        let c = with-count t (spanOf a (itemAt q i .length)) in
+        let c = with-count t (spanOf a (itemNo q i .length)) in
         record {
           least = omega (arith, h .least);
           most = omega (arith, h .most);
@@ -95,13 +95,13 @@ module _ (o : ℕ → Bool) (small : (a : ℕ) → o a ≡ true → a < limit) (
       (record { least = omega arith; most = omega arith; count = refl; kept = λ j l. refl; stands = λ j l. absurd (omega arith); stopped = λ l. absurd (omega arith) })
   from (suc k) i t room n =
       ⊎-elim
-      (λ (p : (a : PhysAddr) × (lowestPlace o t (itemAt q i) ≡ At a)).
-      let s : Span = spanOf (p .0) (itemAt q i .length) in
+      (λ (p : (a : PhysAddr) × (lowestPlace o t (itemNo q i) ≡ At a)).
+      let s : Span = spanOf (p .0) (itemNo q i .length) in
       let c = with-count t s in
       let l = with-length t s in
       rw (step-at k i t (p .0) (p .1))
       (from-step k i t (p .0) _ (p .1) (omega arith) (omega arith) (from k (i + 1) (withSpan t s) (omega arith) (omega arith))))
-      (λ (e : lowestPlace o t (itemAt q i) ≡ NoRoom).
+      (λ (e : lowestPlace o t (itemNo q i) ≡ NoRoom).
       rw (step-none k i t e)
       (record {
         least = omega arith;
@@ -109,30 +109,30 @@ module _ (o : ℕ → Bool) (small : (a : ℕ) → o a ≡ true → a < limit) (
         count = refl;
         kept = λ j l. refl;
         stands = λ j l. absurd (omega arith);
-        stopped = λ l. no-room o t (itemAt q i) small (some i (omega arith)) .0 e;
+        stopped = λ l. no-room o t (itemNo q i) small (some i (omega arith)) .0 e;
       }))
-      (place-cases (lowestPlace o t (itemAt q i)))
+      (place-cases (lowestPlace o t (itemNo q i)))
 
   module _ (t : Spans) (room : t .count + q .count ≤ length (t .list)) where
     all : From o q (q .count) 0 t (placeItems o t q)
     unfolding placeItems
     all = from (q .count) 0 t room (omega arith)
 
-    stands-item : (i : ℕ) → i < placeItems o t q .done → Stands o (placeItems o t q .spans) (t .count + i) (itemAt q i)
+    stands-item : (i : ℕ) → i < placeItems o t q .done → Stands o (placeItems o t q .spans) (t .count + i) (itemNo q i)
     stands-item i l =
         let e : 0 + i ≡ i = omega arith in
         rw e at (all .stands i (omega arith))
 
     -- the span of the index j, past those taken, holds the item that many places on
-    stands-at : (j : ℕ) → t .count ≤ j → j < placeItems o t q .spans .count → Stands o (placeItems o t q .spans) j (itemAt q (j - t .count))
+    stands-at : (j : ℕ) → t .count ≤ j → j < placeItems o t q .spans .count → Stands o (placeItems o t q .spans) j (itemNo q (j - t .count))
     stands-at j l m =
         let e : t .count + (j - t .count) ≡ j = omega arith in
         rw e at (stands-item (j - t .count) (omega (arith, all .count)))
 
-    ends-at : (i : ℕ) → i < q .count → i ≤ placeItems o t q .done → (placeItems o t q .done ≡ i) ↔ ((s : ℕ) → Suits o (upTo (placeItems o t q .spans) (t .count + i)) (itemAt q i) s → ⊥)
+    ends-at : (i : ℕ) → i < q .count → i ≤ placeItems o t q .done → (placeItems o t q .done ≡ i) ↔ ((s : ℕ) → Suits o (upTo (placeItems o t q .spans) (t .count + i)) (itemNo q i) s → ⊥)
     ends-at i l m =
         let r : Placed = placeItems o t q in (
-          λ e s h. all .stopped (omega arith) s (rw e (suits-fewer o (itemAt q i) s (upTo (r .spans) (t .count + i)) (r .spans) (omega (arith, all .count)) (λ j k. refl) h)),
+          λ e s h. all .stopped (omega arith) s (rw e (suits-fewer o (itemNo q i) s (upTo (r .spans) (t .count + i)) (r .spans) (omega (arith, all .count)) (λ j k. refl) h)),
           λ h. ⊎-elim (λ e. sym e) (λ k. absurd (h _ (stands-item i k .suits))) (eq-or-lt-of-le m),
         )
 
@@ -148,9 +148,9 @@ module _ (o : ℕ → Bool) (small : (a : ℕ) → o a ≡ true → a < limit) (
           apart = λ i j k l m a g h. let s = stands-at j l m in s .suits .apart a (h .0) (omega (arith, s .length)) i k g;
         }
 
-module _ (b : Board) (q : Items) (some : (i : ℕ) → i < q .count → 0 < itemAt q i .length) (t : Spans) (room : t .count + q .count ≤ length (t .list)) where
-  pub board-in-order : InOrder (openAt b) t q (placeItems (openAt b) t q)
-  board-in-order = in-order (openAt b) (open-below b) q some t room
+module _ (b : Board) (q : Items) (some : (i : ℕ) → i < q .count → 0 < itemNo q i .length) (t : Spans) (room : t .count + q .count ≤ length (t .list)) where
+  pub board-in-order : InOrder (isOpen b) t q (placeItems (isOpen b) t q)
+  board-in-order = in-order (isOpen b) (open-below b) q some t room
 
-  pub placed-open : (j : ℕ) → t .count ≤ j → j < placeItems (openAt b) t q .spans .count → (a : ℕ) → Holds (spanAt (placeItems (openAt b) t q .spans) j) a → Open b a
+  pub placed-open : (j : ℕ) → t .count ≤ j → j < placeItems (isOpen b) t q .spans .count → (a : ℕ) → Holds (spanNo (placeItems (isOpen b) t q .spans .list) j) a → Open b a
   placed-open j l m a h = open-is b a .0 (board-in-order .opened j l m a h)

@@ -11,7 +11,7 @@ use Rattle.placement.specs.declared.Spans.{Spans}
 use Rattle.placement.specs.declared.Item.{Item}
 use Rattle.placement.specs.declared.Items.{Items}
 use Rattle.placement.specs.Free.{maxSpans}
-use Rattle.placement.specs.Order.{maxItems, itemAt}
+use Rattle.placement.specs.Order.{maxItems, itemNo}
 
 -- the boundary is above 0 and at most a page, so that rounding up from a window stays below 2^32
 pub record Bounded (q : Item) : Type 0 where
@@ -27,4 +27,4 @@ pub record ReadyItems (b : Board) (t : Spans) (q : Items) : Type 0 where
   pub checked : Checked b
   pub items : q .count ≤ maxItems
   pub spans : t .count + q .count ≤ maxSpans
-  pub each : (i : ℕ) → i < q .count → Bounded (itemAt q i)
+  pub each : (i : ℕ) → i < q .count → Bounded (itemNo q i)

@@ -5,14 +5,14 @@ use board::Board;
 ghost use mathlib.Core.Path.{_≡_};
 ghost use Prim.Native.Nat.{_≤_};
 ghost use Rattle.memory_map.specs.Pairs.{maxPairs};
-ghost use Rattle.board.specs.Open.{openAt};
-ghost use Rattle.placement.specs.Free.{maxSpans, takenAt, freeAt};
+ghost use Rattle.board.specs.Open.{isOpen};
+ghost use Rattle.placement.specs.Free.{maxSpans, isTaken, isFree};
 ghost use Rattle.placement.specs.FreeEdge.{takenEdge, freeEdge};
 
 // Whether the address lies in a span taken.
-fn taken_at(taken: Spans, a: PhysAddr) -> bool
+fn is_taken(taken: Spans, a: PhysAddr) -> bool
     requires { ⌜ taken .count ≤ maxSpans ⌝ }
-    ensures { λ r. ⌜ r ≡ takenAt taken (a .0) ⌝ }
+    ensures { λ r. ⌜ r ≡ isTaken taken (a .0) ⌝ }
 {
     let mut i = 0;
     while i < taken.count {
@@ -26,14 +26,14 @@ fn taken_at(taken: Spans, a: PhysAddr) -> bool
 }
 
 // Whether the address is free.
-pub fn free_at(board: Board, taken: Spans, a: PhysAddr) -> bool
+pub fn is_free(board: Board, taken: Spans, a: PhysAddr) -> bool
     requires { ⌜ (board .map .count ≤ maxPairs) × (taken .count ≤ maxSpans) ⌝ }
-    ensures { λ r. ⌜ r ≡ freeAt (openAt board) taken (a .0) ⌝ }
+    ensures { λ r. ⌜ r ≡ isFree (isOpen board) taken (a .0) ⌝ }
 {
-    if taken_at(taken, a) {
+    if is_taken(taken, a) {
         return false;
     }
-    board::open_at(board, a)
+    board::is_open(board, a)
 }
 
 // The nearest edge of a span taken past x and before e, else e.

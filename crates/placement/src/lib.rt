@@ -7,14 +7,14 @@ pub mod lowest;
 pub mod order;
 
 // At most so many items: 16 modules and the information block.
-pub const ITEMS: usize = 17;
+pub const MAX_ITEMS: usize = 17;
 
 // At most so many spans: those of 16 kernel extents and the items.
-pub const SPANS: usize = 33;
+pub const MAX_SPANS: usize = 33;
 
 // Spans taken: the kernel's extents first, then the items placed.
 pub struct Spans {
-    pub list: [Span; SPANS],
+    pub list: [Span; MAX_SPANS],
     pub count: usize,
 }
 
@@ -26,7 +26,7 @@ pub struct Item {
 
 // The items of a load: the modules, then the information block.
 pub struct Items {
-    pub list: [Item; ITEMS],
+    pub list: [Item; MAX_ITEMS],
     pub count: usize,
 }
 

@@ -6,7 +6,7 @@ use crate::free;
 use address::PhysAddr;
 use board::Board;
 ghost use mathlib.Core.Path.{_≡_};
-ghost use Rattle.board.specs.Open.{openAt};
+ghost use Rattle.board.specs.Open.{isOpen};
 ghost use Rattle.placement.specs.Lowest.{lowestPlace};
 ghost use Rattle.placement.specs.Ready.{Ready};
 
@@ -14,7 +14,7 @@ ghost use Rattle.placement.specs.Ready.{Ready};
 // to edge as long as it meets free addresses; past others the next candidate is the edge, rounded up.
 pub fn lowest_place(board: Board, taken: Spans, item: Item) -> Place
     requires { ⌜ Ready board taken item ⌝ }
-    ensures { λ r. ⌜ r ≡ lowestPlace (openAt board) taken item ⌝ }
+    ensures { λ r. ⌜ r ≡ lowestPlace (isOpen board) taken item ⌝ }
 {
     let mut a = PhysAddr::lowest(item.boundary);
     let mut x = a;
@@ -23,7 +23,7 @@ pub fn lowest_place(board: Board, taken: Spans, item: Item) -> Place
             return Place::NoRoom;
         }
         let e = free::free_edge(board, taken, x);
-        if free::free_at(board, taken, x) {
+        if free::is_free(board, taken, x) {
             x = e;
         } else {
             a = e.round_up(item.boundary);

@@ -9,7 +9,7 @@ use address::Span;
 use board::Board;
 ghost use mathlib.Core.Path.{_≡_};
 ghost use Prim.Native.Nat.{_<_};
-ghost use Rattle.board.specs.Open.{openAt};
+ghost use Rattle.board.specs.Open.{isOpen};
 ghost use Rattle.placement.specs.Free.{maxSpans};
 ghost use Rattle.placement.specs.Order.{withSpan, placeItems};
 ghost use Rattle.placement.specs.Ready.{ReadyItems};
@@ -29,7 +29,7 @@ fn with_span(spans: Spans, span: Span) -> Spans
 // The items placed in order, each at its lowest place beside the spans taken and the items before it, up to the first with no room.
 pub fn place_items(board: Board, taken: Spans, items: Items) -> Placed
     requires { ⌜ ReadyItems board taken items ⌝ }
-    ensures { λ r. ⌜ r ≡ placeItems (openAt board) taken items ⌝ }
+    ensures { λ r. ⌜ r ≡ placeItems (isOpen board) taken items ⌝ }
 {
     let mut t = taken;
     let mut i = 0;

@@ -10,8 +10,8 @@ use mathlib.Core.List.{List, [], _∷_, _++_}
 use Prim.Native.Nat.{ℕ, zero, suc, _+_, _-_, _/_, _%_}
 use lib.Dec.{eqb, ltb}
 use lib.ListN.{length, drop, getD}
-use Rattle.memory.specs.Patched.{patched}
-use Rattle.viertompu.specs.Rows.{rows}
+use Rattle.buffer.specs.Patched.{patched}
+use Rattle.viertompu.specs.Joined.{joined}
 
 -- the buffer w holds the text t from the offset `at` on, and v is what it holds then; the text ends at r
 pub record Wrote (w : List ℕ) (at : ℕ) (t v : List ℕ) (r : ℕ) : Type 0 where
@@ -54,4 +54,4 @@ unfoldable pub fieldText : ℕ → List ℕ
 fieldText x = blank ∷ digitsOf 16 hexLength x
 
 unfoldable pub fieldsText : List ℕ → List ℕ
-fieldsText fields = rows (λ i. fieldText (getD fields i 0)) (length fields) ++ (newline ∷ [])
+fieldsText fields = joined (λ i. fieldText (getD fields i 0)) (length fields) ++ (newline ∷ [])

@@ -11,9 +11,9 @@ use Prim.Native.Nat.{ℕ, zero, suc, _+_, _*_, _-_, _/_, _%_, _≤_}
 use native.Mathlib.Nat.{add-zero}
 use native.Mathlib.Omega.{arith}
 use lib.ListN.{length, getD, length-append, length-drop}
-use Rattle.memory.specs.PatchedLaws.{patched-nil, patched-append}
-use Rattle.viertompu.specs.Rows.{rows}
-use Rattle.viertompu.specs.RowLaws.{length-rows, rows-more}
+use Rattle.buffer.specs.PatchedLaws.{patched-nil, patched-append}
+use Rattle.viertompu.specs.Joined.{joined}
+use Rattle.viertompu.specs.JoinedLaws.{length-joined, joined-more}
 use Rattle.report.specs.Text.{Wrote, newline, hexLength, decimalLength, glyphOf, digitsOf, leadingZeros, decimalText, fieldText, fieldsText}
 
 pub length-digits : (base k x : ℕ) → length (digitsOf base k x) ≡ k
@@ -34,8 +34,8 @@ length-field x = ap suc (length-digits 16 hexLength x)
 pub length-fields : (fields : List ℕ) → length (fieldsText fields) ≡ 9 * length fields + 1
 unfolding fieldsText
 length-fields fields =
-    length-append (rows (λ i. fieldText (getD fields i 0)) (length fields)) (newline ∷ [])
-    ∙ omega (arith, length-rows (λ i. fieldText (getD fields i 0)) 9 (λ i. length-field (getD fields i 0)) (length fields))
+    length-append (joined (λ i. fieldText (getD fields i 0)) (length fields)) (newline ∷ [])
+    ∙ omega (arith, length-joined (λ i. fieldText (getD fields i 0)) 9 (λ i. length-field (getD fields i 0)) (length fields))
 
 module _ (w : List ℕ) (at : ℕ) where
   pub wrote-nothing : Wrote w at [] w at
@@ -49,5 +49,5 @@ module _ (w : List ℕ) (at : ℕ) where
         ends = omega (arith, length-append t s);
       }
 
-  pub wrote-row : (f : ℕ → List ℕ) (n : ℕ) (u v : List ℕ) (m r : ℕ) → Wrote w at (rows f n) u m → Wrote u m (f n) v r → Wrote w at (rows f (n + 1)) v r
-  wrote-row f n u v m r a b = rw rows-more (wrote-behind (rows f n) (f n) u v m r a b)
+  pub wrote-row : (f : ℕ → List ℕ) (n : ℕ) (u v : List ℕ) (m r : ℕ) → Wrote w at (joined f n) u m → Wrote u m (f n) v r → Wrote w at (joined f (n + 1)) v r
+  wrote-row f n u v m r a b = rw joined-more (wrote-behind (joined f n) (f n) u v m r a b)

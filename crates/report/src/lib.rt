@@ -1,34 +1,34 @@
 // The report on a plan: a line for each segment and module and one for the information block, or one for a refusal. Each
 // function writes its text from an offset on and gives the offset behind it.
-use image::SEGMENTS;
-use submission::MODULES;
+use image::MAX_SEGMENTS;
+use submission::MAX_MODULES;
 use viertompu::BLOCK_END;
 use viertompu::BLOCK_START;
 use viertompu::ENTRY;
+use viertompu::FIRST_MODULE;
+use viertompu::FIRST_SEGMENT;
 use viertompu::ITEM;
-use viertompu::MODULE_WORDS;
-use viertompu::MODULES_AT;
 use viertompu::NUMBER;
-use viertompu::SEGMENT_WORDS;
-use viertompu::SEGMENTS_AT;
 use viertompu::WORDS;
+use viertompu::WORDS_PER_MODULE;
+use viertompu::WORDS_PER_SEGMENT;
 ghost use Prim.Native.Nat.{_+_, _*_, _≤_, _<_, _^_};
 ghost use lib.ListN.{length};
-ghost use Rattle.submission.specs.Format.{moduleLimit};
-ghost use Rattle.image.specs.Judged.{segmentLimit};
-ghost use Rattle.viertompu.specs.Rows.{rows};
+ghost use Rattle.submission.specs.Format.{maxModules};
+ghost use Rattle.image.specs.Judged.{maxSegments};
+ghost use Rattle.viertompu.specs.Joined.{joined};
 ghost use Rattle.report.specs.Text.{Wrote};
-ghost use Rattle.report.specs.Report.{lineLimit, reportLimit, lineText, refusalText, segmentLine, moduleLine, reportOf};
+ghost use Rattle.report.specs.Report.{maxLineText, maxReport, lineText, refusalText, segmentLine, moduleLine, reportOf};
 
 pub mod digits;
 
 // No report is longer.
-pub const LIMIT: usize = 1584;
+pub const MAX_REPORT: usize = 1584;
 
 // Writes the report on a plan from the text's first byte on.
 pub fn write_report(text: &mut [u8], plan: &[u32; WORDS]) -> usize
     ensures { λ r. ⌜ Wrote (now (text .entry)) 0 (reportOf (now (plan .entry))) (now (text .exit)) r ⌝ }
-    ensures { λ r. ⌜ r ≤ reportLimit ⌝ }
+    ensures { λ r. ⌜ r ≤ maxReport ⌝ }
 {
     if plan[NUMBER] != 0 {
         return write_refusal(text, plan[NUMBER], plan[ITEM]);
@@ -52,11 +52,11 @@ fn write_refusal(text: &mut [u8], number: u32, item: u32) -> usize
 
 // Writes a line for each segment.
 fn write_segments(text: &mut [u8], plan: &[u32; WORDS]) -> usize
-    ensures { λ r. ⌜ Wrote (now (text .entry)) 0 (rows (segmentLine (now (plan .entry))) segmentLimit) (now (text .exit)) r ⌝ }
+    ensures { λ r. ⌜ Wrote (now (text .entry)) 0 (joined (segmentLine (now (plan .entry))) maxSegments) (now (text .exit)) r ⌝ }
 {
     let mut next = 0;
     let mut i = 0;
-    while i < SEGMENTS {
+    while i < MAX_SEGMENTS {
         next = write_segment(text, next, plan, i);
         i += 1;
     }
@@ -65,10 +65,10 @@ fn write_segments(text: &mut [u8], plan: &[u32; WORDS]) -> usize
 
 // Writes the line of a segment; a place whose segment ends at 0 has none.
 fn write_segment(text: &mut [u8], at: usize, plan: &[u32; WORDS], i: usize) -> usize
-    requires { ⌜ (i < segmentLimit) × (at + lineLimit < 2 ^ 64) ⌝ }
+    requires { ⌜ (i < maxSegments) × (at + maxLineText < 2 ^ 64) ⌝ }
     ensures { λ r. ⌜ Wrote (now (text .entry)) at (segmentLine (now (plan .entry)) i) (now (text .exit)) r ⌝ }
 {
-    let from = SEGMENTS_AT + SEGMENT_WORDS * i;
+    let from = FIRST_SEGMENT + WORDS_PER_SEGMENT * i;
     let end = plan[from + 2];
     if end == 0 {
         return at;
@@ -79,12 +79,12 @@ fn write_segment(text: &mut [u8], at: usize, plan: &[u32; WORDS], i: usize) -> u
 
 // Writes a line for each module.
 fn write_modules(text: &mut [u8], at: usize, plan: &[u32; WORDS]) -> usize
-    requires { ⌜ at + lineLimit * moduleLimit < 2 ^ 64 ⌝ }
-    ensures { λ r. ⌜ Wrote (now (text .entry)) at (rows (moduleLine (now (plan .entry))) moduleLimit) (now (text .exit)) r ⌝ }
+    requires { ⌜ at + maxLineText * maxModules < 2 ^ 64 ⌝ }
+    ensures { λ r. ⌜ Wrote (now (text .entry)) at (joined (moduleLine (now (plan .entry))) maxModules) (now (text .exit)) r ⌝ }
 {
     let mut next = at;
     let mut i = 0;
-    while i < MODULES {
+    while i < MAX_MODULES {
         next = write_module(text, next, plan, i);
         i += 1;
     }
@@ -93,10 +93,10 @@ fn write_modules(text: &mut [u8], at: usize, plan: &[u32; WORDS]) -> usize
 
 // Writes the line of a module with its index; a place whose module ends at 0 has none.
 fn write_module(text: &mut [u8], at: usize, plan: &[u32; WORDS], i: usize) -> usize
-    requires { ⌜ (i < moduleLimit) × (at + lineLimit < 2 ^ 64) ⌝ }
+    requires { ⌜ (i < maxModules) × (at + maxLineText < 2 ^ 64) ⌝ }
     ensures { λ r. ⌜ Wrote (now (text .entry)) at (moduleLine (now (plan .entry)) i) (now (text .exit)) r ⌝ }
 {
-    let from = MODULES_AT + MODULE_WORDS * i;
+    let from = FIRST_MODULE + WORDS_PER_MODULE * i;
     let end = plan[from + 1];
     if end == 0 {
         return at;
@@ -121,6 +121,6 @@ pub fn write_text(text: &mut [u8], at: usize, s: &[u8]) -> usize
     requires { ⌜ at + length (now s) < 2 ^ 64 ⌝ }
     ensures { λ r. ⌜ Wrote (now (text .entry)) at (now (s .entry)) (now (text .exit)) r ⌝ }
 {
-    memory::write_bytes(text, at, s);
+    buffer::write_bytes(text, at, s);
     at + s.len()
 }

@@ -1,1 +1,1 @@
-pub mod Reviewed
+pub mod ReviewLaws

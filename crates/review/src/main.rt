@@ -3,7 +3,7 @@ use libc::STDIN_FILENO;
 use libc::STDOUT_FILENO;
 ghost use Prim.Native.Nat.{_≤_};
 ghost use Rattle.report.specs.Text.{Wrote};
-ghost use Rattle.report.specs.Report.{reportLimit};
+ghost use Rattle.report.specs.Report.{maxReport};
 ghost use Rattle.review.specs.Review.{reviewOf};
 
 // The longest submission that is read.
@@ -29,7 +29,7 @@ fn main() {
         io::write_all(STDOUT_FILENO, b"input over 12288 bytes\n");
         return;
     }
-    let mut text = [0; report::LIMIT];
+    let mut text = [0; report::MAX_REPORT];
     let end = review(&input[..n], &mut text);
     io::write_all(STDOUT_FILENO, &text[..end]);
 }
@@ -37,7 +37,7 @@ fn main() {
 // Writes the report on a submission, and gives its length.
 fn review(submission: &[u8], text: &mut [u8]) -> usize
     ensures { λ r. ⌜ Wrote (now (text .entry)) 0 (reviewOf (now (submission .entry))) (now (text .exit)) r ⌝ }
-    ensures { λ r. ⌜ r ≤ reportLimit ⌝ }
+    ensures { λ r. ⌜ r ≤ maxReport ⌝ }
 {
     let board = BOARD;
     let mut map = [0; MAP];

@@ -1,4 +1,4 @@
 -- What the proofs of this crate's functions share.
-pub mod Scans
-pub mod Turns
-pub mod Judged
+pub mod ScanLaws
+pub mod TurnLaws
+pub mod ParseLaws

@@ -12,7 +12,7 @@ use Prim.Native.Nat.{ℕ, zero, suc, _+_, _*_}
 use lib.ListN.{getD, take, drop, replicate}
 use Rattle.laws.specs.Table.{table}
 use Rattle.number.specs.Number.{numberAt}
-use Rattle.submission.specs.declared.read.Entry.{Entry}
+use Rattle.submission.specs.declared.read.TableEntry.{TableEntry}
 use Rattle.submission.specs.declared.Part.{Part}
 use Rattle.submission.specs.declared.Module.{Module}
 use Rattle.submission.specs.declared.Layout.{Layout}
@@ -38,33 +38,33 @@ abbrev pub lineLength : List ℕ → ℕ
 lineLength s = numberAt 2 s 10
 
 -- at 12, 8 bytes for each module
-abbrev pub headerSize : ℕ
-headerSize = 12
+abbrev pub prefixSize : ℕ
+prefixSize = 12
 
-abbrev pub entrySize : ℕ
-entrySize = 8
+abbrev pub tableEntrySize : ℕ
+tableEntrySize = 8
 
-abbrev pub entryAt : ℕ → ℕ
-entryAt i = headerSize + entrySize * i
+abbrev pub entryOffset : ℕ → ℕ
+entryOffset i = prefixSize + tableEntrySize * i
 
 -- at 0 of an entry, 4 bytes
 abbrev pub dataLength : List ℕ → ℕ → ℕ
-dataLength s i = numberAt 4 s (entryAt i)
+dataLength s i = numberAt 4 s (entryOffset i)
 
 -- at 4 of an entry, 2 bytes
 abbrev pub stringLength : List ℕ → ℕ → ℕ
-stringLength s i = numberAt 2 s (entryAt i + 4)
+stringLength s i = numberAt 2 s (entryOffset i + 4)
 
 -- at 6 of an entry, 2 bytes
 abbrev pub reserved : List ℕ → ℕ → ℕ
-reserved s i = numberAt 2 s (entryAt i + 6)
+reserved s i = numberAt 2 s (entryOffset i + 6)
 
-abbrev pub entryOf : List ℕ → ℕ → Entry
-entryOf s i = record { bytes = dataLength s i; string = stringLength s i; reserved = reserved s i }
+abbrev pub tableEntry : List ℕ → ℕ → TableEntry
+tableEntry s i = record { bytes = dataLength s i; string = stringLength s i; reserved = reserved s i }
 
 -- then the image, the command line, and for each module its data and its string
 abbrev pub imageStart : List ℕ → ℕ
-imageStart s = entryAt (moduleCount s)
+imageStart s = entryOffset (moduleCount s)
 
 abbrev pub lineStart : List ℕ → ℕ
 lineStart s = imageStart s + imageLength s
@@ -79,22 +79,22 @@ stringStart s i = dataStart s i + dataLength s i
 abbrev pub partsEnd : List ℕ → ℕ
 partsEnd s = dataStart s (moduleCount s)
 
-abbrev pub imageOf : List ℕ → Part
-imageOf s = record { at = imageStart s; len = imageLength s }
+abbrev pub imagePart : List ℕ → Part
+imagePart s = record { at = imageStart s; len = imageLength s }
 
-abbrev pub lineOf : List ℕ → Part
-lineOf s = record { at = lineStart s; len = lineLength s }
+abbrev pub linePart : List ℕ → Part
+linePart s = record { at = lineStart s; len = lineLength s }
 
 -- a module with its data from `at` on
-abbrev pub moduleFrom : ℕ → Entry → Module
+abbrev pub moduleFrom : ℕ → TableEntry → Module
 moduleFrom at e = record { «data» = record { at = at; len = e .bytes }; string = record { at = at + e .bytes; len = e .string } }
 
 abbrev pub moduleOf : List ℕ → ℕ → Module
-moduleOf s i = moduleFrom (dataStart s i) (entryOf s i)
+moduleOf s i = moduleFrom (dataStart s i) (tableEntry s i)
 
 -- at most so many modules
-abbrev pub moduleLimit : ℕ
-moduleLimit = 16
+abbrev pub maxModules : ℕ
+maxModules = 16
 
 abbrev pub noPart : Part
 noPart = record { at = 0; len = 0 }
@@ -104,17 +104,17 @@ noModule = record { «data» = noPart; string = noPart }
 
 -- the first n modules, and zeros past the last
 abbrev pub moduleTable : List ℕ → ℕ → List Module
-moduleTable s n = table (moduleOf s) n moduleLimit noModule
+moduleTable s n = table (moduleOf s) n maxModules noModule
 
 unfoldable pub layoutOf : List ℕ → Layout
-layoutOf s = record { image = imageOf s; line = lineOf s; modules = moduleTable s (moduleCount s); count = moduleCount s }
+layoutOf s = record { image = imagePart s; line = linePart s; modules = moduleTable s (moduleCount s); count = moduleCount s }
 
 -- the module of an index
 abbrev pub moduleNo : Layout → ℕ → Module
 moduleNo l i = getD (l .modules) i noModule
 
 unfoldable pub noLayout : Layout
-noLayout = record { image = noPart; line = noPart; modules = replicate moduleLimit noModule; count = 0 }
+noLayout = record { image = noPart; line = noPart; modules = replicate maxModules noModule; count = 0 }
 
 -- the bytes of a part, cut where the submission ends
 abbrev pub bytesOf : List ℕ → Part → List ℕ

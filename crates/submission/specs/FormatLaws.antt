@@ -15,7 +15,7 @@ use native.Mathlib.Omega.{arith}
 use lib.ListN.{length, getD, length-take, length-drop}
 use lib.Seq.{getD-take, getD-drop}
 use Rattle.laws.specs.TableLaws.{length-table, table-at, table-past}
-use Rattle.submission.specs.Format.{moduleCount, imageLength, lineLength, dataLength, stringLength, imageStart, lineStart, dataStart, stringStart, lineOf, moduleOf, moduleLimit, noModule, layoutOf, moduleNo, bytesOf}
+use Rattle.submission.specs.Format.{moduleCount, imageLength, lineLength, dataLength, stringLength, imageStart, lineStart, dataStart, stringStart, linePart, moduleOf, maxModules, noModule, layoutOf, moduleNo, bytesOf}
 use Rattle.submission.specs.declared.Part.{Part}
 
 module _ (s : List ℕ) where
@@ -44,7 +44,7 @@ module _ (s : List ℕ) where
       (λ l. omega (arith, data-order i j (le-of-suc-le-suc l), rw add-one at (data-behind-string j)))
       (eq-or-lt-of-le h)
 
-  pub layout-line : layoutOf s .line ≡ lineOf s
+  pub layout-line : layoutOf s .line ≡ linePart s
   unfolding layoutOf
   layout-line = refl
 
@@ -58,15 +58,15 @@ module _ (s : List ℕ) where
   pub bytesOf-at : (p : Part) (i : ℕ) → i < p .len → getD (bytesOf s p) i 0 ≡ getD s (p .at + i) 0
   bytesOf-at p i h = rw (getD-take, getD-drop)
 
-  -- the table has room for `moduleLimit` modules
-  pub length-modules : moduleCount s ≤ moduleLimit → length (layoutOf s .modules) ≡ moduleLimit
+  -- the table has room for `maxModules` modules
+  pub length-modules : moduleCount s ≤ maxModules → length (layoutOf s .modules) ≡ maxModules
   unfolding layoutOf
-  length-modules h = length-table (moduleOf s) moduleLimit noModule (moduleCount s) h
+  length-modules h = length-table (moduleOf s) maxModules noModule (moduleCount s) h
 
   pub module-at : (i : ℕ) → i < moduleCount s → moduleNo (layoutOf s) i ≡ moduleOf s i
   unfolding layoutOf
-  module-at i h = table-at (moduleOf s) moduleLimit noModule (moduleCount s) i h
+  module-at i h = table-at (moduleOf s) maxModules noModule (moduleCount s) i h
 
   pub module-past : (i : ℕ) → moduleCount s ≤ i → moduleNo (layoutOf s) i ≡ noModule
   unfolding layoutOf
-  module-past i h = table-past (moduleOf s) moduleLimit noModule (moduleCount s) i h
+  module-past i h = table-past (moduleOf s) maxModules noModule (moduleCount s) i h

@@ -1,10 +1,10 @@
--- What an accepted submission keeps.
+-- What an good-submission submission keeps.
 --     submission-refuses                                         the checks on it refuse
---     Accepted, accepted, rules-accept                           every rule of a submission, as facts: it is accepted exactly where they hold
+--     GoodSubmission, good-submission, submission-good                           every rule of a submission, as facts: it is good-submission exactly where they hold
 --     image-inside, line-inside, data-inside, string-inside      its parts lie inside it
 --     line-no-zero, string-no-zero                               no zero byte in its command line and strings
 --     image-bound, data-bound                                    lengths of 32 bits
---     parsed-layout, parsed-none, parsed-count                   what a parse gives
+--     parsed-layout, parsed-none, parsed-modules                   what a parse gives
 -- Assumes nothing.
 use mathlib.Core.Path.{_≡_, refl, _∙_}
 use mathlib.Core.Bool.{Bool, true, false, not, _&&_, false≢true}
@@ -15,30 +15,30 @@ use native.Mathlib.Omega.{arith}
 use lib.Dec.{leb, eqb}
 use lib.ListN.{length, take, drop, getD}
 use borrow.Author.Tests.{leb-true, le-leb, eqb-true, eq-eqb, not-true, not-false}
-use Rattle.answer.specs.Order.{refuses}
+use Rattle.answer.specs.ChainLaws.{refuses}
 use Rattle.laws.specs.Tests.{allFrom}
 use Rattle.laws.specs.TestLaws.{true-or-false, and-left, and-right, all-intro, all-elim}
 use Rattle.laws.specs.Checks.{passes}
 use Rattle.number.specs.NumberLaws.{Bytes, bytes-drop, number-bound}
 use Rattle.submission.specs.Scan.{hasZero, sameBytes}
 use Rattle.submission.specs.ScanLaws.{no-zero, same-is}
-use Rattle.submission.specs.Format.{mark, version, moduleCount, imageLength, lineLength, headerSize, entryAt, dataLength, stringLength, reserved, imageStart, lineStart, dataStart, stringStart, partsEnd, lineOf, moduleOf, moduleLimit, layoutOf, noLayout, bytesOf}
+use Rattle.submission.specs.Format.{mark, version, moduleCount, imageLength, lineLength, prefixSize, entryOffset, dataLength, stringLength, reserved, imageStart, lineStart, dataStart, stringStart, partsEnd, linePart, moduleOf, maxModules, layoutOf, noLayout, bytesOf}
 use Rattle.submission.specs.FormatLaws.{data-behind-line, data-behind-string, data-order, length-bytesOf, bytesOf-at, layout-count}
-use Rattle.submission.specs.Rules.{lineLimit, stringLimit, isSubmission, inLimits, entryHolds, stringHolds, rulesHold, submissionChecks, parsed}
+use Rattle.submission.specs.Rules.{maxLine, maxString, isSubmission, inLimits, entryHolds, stringHolds, rulesHold, submissionChecks, parsedSubmission}
 use Rattle.submission.specs.declared.Part.{Part}
 
 -- the rules of a submission, as facts
-pub record Accepted (s : List ℕ) : Type 0 where
-  pub header : headerSize ≤ length s
+pub record GoodSubmission (s : List ℕ) : Type 0 where
+  pub header : prefixSize ≤ length s
   pub marked : take 3 s ≡ mark
   pub versioned : version s ≡ 1
-  pub count : moduleCount s ≤ moduleLimit
-  pub line : lineLength s ≤ lineLimit
+  pub count : moduleCount s ≤ maxModules
+  pub line : lineLength s ≤ maxLine
   pub bytes : (i : ℕ) → i < moduleCount s → 1 ≤ dataLength s i
-  pub string : (i : ℕ) → i < moduleCount s → stringLength s i ≤ stringLimit
+  pub string : (i : ℕ) → i < moduleCount s → stringLength s i ≤ maxString
   pub zeros : (i : ℕ) → i < moduleCount s → reserved s i ≡ 0
   pub end : partsEnd s ≡ length s
-  pub line-text : hasZero (bytesOf s (lineOf s)) ≡ false
+  pub line-text : hasZero (bytesOf s (linePart s)) ≡ false
   pub string-text : (i : ℕ) → i < moduleCount s → hasZero (bytesOf s (moduleOf s i .string)) ≡ false
 
 -- no zero byte in a part
@@ -61,16 +61,16 @@ module _ (s : List ℕ) where
   unfolding refuses submissionChecks
   submission-refuses = refl
 
-  header-facts : isSubmission s ≡ true → (headerSize ≤ length s) × (take 3 s ≡ mark) × (version s ≡ 1)
+  header-facts : isSubmission s ≡ true → (prefixSize ≤ length s) × (take 3 s ≡ mark) × (version s ≡ 1)
   unfolding isSubmission
   header-facts h =
-      let a = leb headerSize (length s) in
+      let a = leb prefixSize (length s) in
       let b = sameBytes (take 3 s) mark in
       let c = eqb (version s) 1 in
       let ab = and-left (a && b) c h in
-      (leb-true headerSize (length s) (and-left a b ab), same-is (take 3 s) mark .0 (and-right a b ab), eqb-true _ _ (and-right (a && b) c h))
+      (leb-true prefixSize (length s) (and-left a b ab), same-is (take 3 s) mark .0 (and-right a b ab), eqb-true _ _ (and-right (a && b) c h))
 
-  pub header-inside : isSubmission s ≡ true → headerSize ≤ length s
+  pub header-inside : isSubmission s ≡ true → prefixSize ≤ length s
   header-inside h = header-facts h .0
 
   is-submission : passes (submissionChecks s) ≡ true → isSubmission s ≡ true
@@ -81,30 +81,30 @@ module _ (s : List ℕ) where
   unfolding passes submissionChecks
   holds-rules h = not-false _ (not-true _ (and-left (not (not (rulesHold s))) true (and-right (not (not (isSubmission s))) (not (not (rulesHold s)) && true) h)))
 
-  pub parsed-layout : passes (submissionChecks s) ≡ true → parsed s .layout ≡ layoutOf s
-  unfolding parsed
+  pub parsed-layout : passes (submissionChecks s) ≡ true → parsedSubmission s .layout ≡ layoutOf s
+  unfolding parsedSubmission
   parsed-layout h = rw h refl
 
-  pub parsed-none : passes (submissionChecks s) ≡ false → parsed s .layout ≡ noLayout
-  unfolding parsed
+  pub parsed-none : passes (submissionChecks s) ≡ false → parsedSubmission s .layout ≡ noLayout
+  unfolding parsedSubmission
   parsed-none h = rw h refl
 
   -- the rules, one by one
   rules-apart : rulesHold s ≡ true
-      → (leb (moduleCount s) moduleLimit ≡ true)
-      × (leb (lineLength s) lineLimit ≡ true)
+      → (leb (moduleCount s) maxModules ≡ true)
+      × (leb (lineLength s) maxLine ≡ true)
       × (allFrom (entryHolds s) 0 (moduleCount s) ≡ true)
       × (eqb (partsEnd s) (length s) ≡ true)
-      × (not (hasZero (bytesOf s (lineOf s))) ≡ true)
+      × (not (hasZero (bytesOf s (linePart s))) ≡ true)
       × (allFrom (stringHolds s) 0 (moduleCount s) ≡ true)
   unfolding rulesHold
   rules-apart h = six _ _ _ _ _ _ h
 
-  entry-facts : allFrom (entryHolds s) 0 (moduleCount s) ≡ true → (i : ℕ) → i < moduleCount s → (1 ≤ dataLength s i) × (stringLength s i ≤ stringLimit) × (reserved s i ≡ 0)
+  entry-facts : allFrom (entryHolds s) 0 (moduleCount s) ≡ true → (i : ℕ) → i < moduleCount s → (1 ≤ dataLength s i) × (stringLength s i ≤ maxString) × (reserved s i ≡ 0)
   unfolding inLimits
   entry-facts h i l =
       let a = leb 1 (dataLength s i) in
-      let b = leb (stringLength s i) stringLimit in
+      let b = leb (stringLength s i) maxString in
       let c = eqb (reserved s i) 0 in
       let abc = all-elim (entryHolds s) 0 (moduleCount s) h i (omega arith) (omega arith) in
       let ab = and-left (a && b) c abc in
@@ -114,8 +114,8 @@ module _ (s : List ℕ) where
   unfolding stringHolds
   string-facts h i l = not-true _ (all-elim (stringHolds s) 0 (moduleCount s) h i (omega arith) (omega arith))
 
-  pub accepted : passes (submissionChecks s) ≡ true → Accepted s
-  accepted h =
+  pub good-submission : passes (submissionChecks s) ≡ true → GoodSubmission s
+  good-submission h =
       let f = header-facts (is-submission h) in
       let r = rules-apart (holds-rules h) in
       record {
@@ -132,17 +132,17 @@ module _ (s : List ℕ) where
         string-text = string-facts (r .5);
       }
 
-  pub rules-accept : Accepted s → passes (submissionChecks s) ≡ true
+  pub submission-good : GoodSubmission s → passes (submissionChecks s) ≡ true
   unfolding passes submissionChecks isSubmission rulesHold inLimits stringHolds
-  rules-accept a =
-      let entry : (i : ℕ) → i < moduleCount s → entryHolds s i ≡ true = λ i m. rw (le-leb 1 (dataLength s i) (a .bytes i m), le-leb (stringLength s i) stringLimit (a .string i m), eq-eqb (reserved s i) 0 (a .zeros i m)) refl in
+  submission-good a =
+      let entry : (i : ℕ) → i < moduleCount s → entryHolds s i ≡ true = λ i m. rw (le-leb 1 (dataLength s i) (a .bytes i m), le-leb (stringLength s i) maxString (a .string i m), eq-eqb (reserved s i) 0 (a .zeros i m)) refl in
       let text : (i : ℕ) → i < moduleCount s → stringHolds s i ≡ true = λ i m. rw (a .string-text i m) refl in
       rw (
-        le-leb headerSize (length s) (a .header),
+        le-leb prefixSize (length s) (a .header),
         same-is (take 3 s) mark .1 (a .marked),
         eq-eqb (version s) 1 (a .versioned),
-        le-leb (moduleCount s) moduleLimit (a .count),
-        le-leb (lineLength s) lineLimit (a .line),
+        le-leb (moduleCount s) maxModules (a .count),
+        le-leb (lineLength s) maxLine (a .line),
         all-intro (entryHolds s) 0 (moduleCount s) (λ i l m. entry i (omega arith)),
         eq-eqb (partsEnd s) (length s) (a .end),
         a .line-text,
@@ -151,15 +151,15 @@ module _ (s : List ℕ) where
       refl
 
 -- the layout that a parse gives has room for its modules, refused or not
-pub parsed-count : (s : List ℕ) → parsed s .layout .count ≤ moduleLimit
+pub parsed-modules : (s : List ℕ) → parsedSubmission s .layout .count ≤ maxModules
 unfolding noLayout
-parsed-count s =
+parsed-modules s =
     ⊎-elim
-    (λ (h : passes (submissionChecks s) ≡ true). rw (parsed-layout s h, layout-count s) (accepted s h .count))
+    (λ (h : passes (submissionChecks s) ≡ true). rw (parsed-layout s h, layout-count s) (good-submission s h .count))
     (λ (h : passes (submissionChecks s) ≡ false). rw (parsed-none s h) (omega arith))
     (true-or-false (passes (submissionChecks s)))
 
-module _ (s : List ℕ) (h : Accepted s) where
+module _ (s : List ℕ) (h : GoodSubmission s) where
   pub image-inside : imageStart s + imageLength s ≤ length s
   image-inside = omega (arith, h .end, data-order s 0 (moduleCount s) (omega arith), data-behind-line s)
 
@@ -173,7 +173,7 @@ module _ (s : List ℕ) (h : Accepted s) where
   data-inside i l = omega (arith, string-inside i l)
 
   pub line-no-zero : (i : ℕ) → i < lineLength s → getD s (lineStart s + i) 0 ≡ 0 → ⊥
-  line-no-zero i l e = part-no-zero s (lineOf s) line-inside (h .line-text) i l e
+  line-no-zero i l e = part-no-zero s (linePart s) line-inside (h .line-text) i l e
 
   pub string-no-zero : (i : ℕ) → i < moduleCount s → (j : ℕ) → j < stringLength s i → getD s (stringStart s i + j) 0 ≡ 0 → ⊥
   string-no-zero i l j k e = part-no-zero s (moduleOf s i .string) (string-inside i l) (h .string-text i l) j k e
@@ -184,4 +184,4 @@ module _ (s : List ℕ) (b : Bytes s) where
   image-bound = number-bound 4 (drop 6 s) (bytes-drop 6 s b)
 
   pub data-bound : (i : ℕ) → dataLength s i < 2 ^ 32
-  data-bound i = number-bound 4 (drop (entryAt i) s) (bytes-drop (entryAt i) s b)
+  data-bound i = number-bound 4 (drop (entryOffset i) s) (bytes-drop (entryOffset i) s b)

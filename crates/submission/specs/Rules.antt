@@ -1,7 +1,7 @@
 -- Which submissions are refused.                               rules: SUBMISSION, ANSWERS (1 and 2)
 --     isSubmission, rulesHold     the rules behind 1, and those behind 2
 --     submissionChecks            1 and 2
---     parsed                      the answer for a submission, and its layout where no check applies
+--     parsedSubmission                      the answer for a submission, and its layout where no check applies
 -- Assumes nothing.
 use mathlib.Core.Bool.{Bool, cond, not, _&&_}
 use mathlib.Core.List.{List, [], _∷_}
@@ -13,27 +13,27 @@ use Rattle.answer.specs.declared.Answer.the-variants.{Load, NotASubmission, Bad
 use Rattle.laws.specs.Tests.{allFrom}
 use Rattle.laws.specs.Checks.{Check, _gives_, firstOf, passes}
 use Rattle.submission.specs.Scan.{hasZero, sameBytes}
-use Rattle.submission.specs.Format.{mark, version, moduleCount, lineLength, headerSize, entryOf, partsEnd, lineOf, moduleOf, moduleLimit, layoutOf, noLayout, bytesOf}
-use Rattle.submission.specs.declared.read.Entry.{Entry}
-use Rattle.submission.specs.declared.Parsed.{Parsed}
+use Rattle.submission.specs.Format.{mark, version, moduleCount, lineLength, prefixSize, tableEntry, partsEnd, linePart, moduleOf, maxModules, layoutOf, noLayout, bytesOf}
+use Rattle.submission.specs.declared.read.TableEntry.{TableEntry}
+use Rattle.submission.specs.declared.ParsedSubmission.{ParsedSubmission}
 
 -- at most so many bytes in a command line, and in a module's string
-abbrev pub lineLimit : ℕ
-lineLimit = 255
+abbrev pub maxLine : ℕ
+maxLine = 255
 
-abbrev pub stringLimit : ℕ
-stringLimit = 127
+abbrev pub maxString : ℕ
+maxString = 127
 
 -- at least the header's 12 bytes, the mark, and version 1
 unfoldable pub isSubmission : List ℕ → Bool
-isSubmission s = leb headerSize (length s) && sameBytes (take 3 s) mark && eqb (version s) 1
+isSubmission s = leb prefixSize (length s) && sameBytes (take 3 s) mark && eqb (version s) 1
 
 -- an entry in its limits: data of at least one byte, a string that is not too long, and zero
-unfoldable pub inLimits : Entry → Bool
-inLimits e = leb 1 (e .bytes) && leb (e .string) stringLimit && eqb (e .reserved) 0
+unfoldable pub inLimits : TableEntry → Bool
+inLimits e = leb 1 (e .bytes) && leb (e .string) maxString && eqb (e .reserved) 0
 
 abbrev pub entryHolds : List ℕ → ℕ → Bool
-entryHolds s i = inLimits (entryOf s i)
+entryHolds s i = inLimits (tableEntry s i)
 
 -- no zero byte stands in the string of module i
 unfoldable pub stringHolds : List ℕ → ℕ → Bool
@@ -42,11 +42,11 @@ stringHolds s i = not (hasZero (bytesOf s (moduleOf s i .string)))
 -- every other rule of the submission
 unfoldable pub rulesHold : List ℕ → Bool
 rulesHold s =
-    leb (moduleCount s) moduleLimit
-    && leb (lineLength s) lineLimit
+    leb (moduleCount s) maxModules
+    && leb (lineLength s) maxLine
     && allFrom (entryHolds s) 0 (moduleCount s)
     && eqb (partsEnd s) (length s)
-    && not (hasZero (bytesOf s (lineOf s)))
+    && not (hasZero (bytesOf s (linePart s)))
     && allFrom (stringHolds s) 0 (moduleCount s)
 
 -- 1, then 2
@@ -54,5 +54,5 @@ unfoldable pub submissionChecks : List ℕ → List (Check Answer)
 submissionChecks s = not (isSubmission s) gives NotASubmission ∷ not (rulesHold s) gives BadSubmission ∷ []
 
 -- the answer, and the layout where it is 0
-unfoldable pub parsed : List ℕ → Parsed
-parsed s = record { answer = firstOf (submissionChecks s) Load; layout = cond (passes (submissionChecks s)) (layoutOf s) noLayout }
+unfoldable pub parsedSubmission : List ℕ → ParsedSubmission
+parsedSubmission s = record { answer = firstOf (submissionChecks s) Load; layout = cond (passes (submissionChecks s)) (layoutOf s) noLayout }

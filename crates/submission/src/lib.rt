@@ -1,7 +1,7 @@
 // A submission in the KSB format: where its parts lie, and whether it keeps the format's rules.
 ghost use mathlib.Core.Path.{_≡_};
 ghost use Rattle.submission.specs.Format.{noLayout, bytesOf};
-ghost use Rattle.submission.specs.Rules.{parsed};
+ghost use Rattle.submission.specs.Rules.{parsedSubmission};
 use answer::Answer;
 
 mod read;
@@ -9,19 +9,19 @@ mod rules;
 pub mod scan;
 
 // The header's size.
-pub const HEADER: usize = 12;
+pub const PREFIX: usize = 12;
 
 // The size of a module's entry in the table behind the header.
-pub const ENTRY: usize = 8;
+pub const TABLE_ENTRY: usize = 8;
 
 // At most so many modules.
-pub const MODULES: usize = 16;
+pub const MAX_MODULES: usize = 16;
 
 // At most so many bytes in a command line.
-pub const LINE: usize = 255;
+pub const MAX_LINE: usize = 255;
 
 // At most so many bytes in a module's string.
-pub const STRING: u16 = 127;
+pub const MAX_STRING: u16 = 127;
 
 // A part of the submission, by its offset and length.
 pub struct Part {
@@ -39,28 +39,28 @@ pub struct Module {
 pub struct Layout {
     pub image: Part,
     pub line: Part,
-    pub modules: [Module; MODULES],
+    pub modules: [Module; MAX_MODULES],
     pub count: usize,
 }
 
 // The answer for a submission, and its parts where it is accepted.
-pub struct Parsed {
+pub struct ParsedSubmission {
     pub answer: Answer,
     pub layout: Layout,
 }
 
 // The answer for a submission: its parts, or 1 or 2 and no parts.
-pub fn parse(s: &[u8]) -> Parsed
-    ensures { λ r. ⌜ r ≡ parsed (now (s .entry)) ⌝ }
+pub fn parse(s: &[u8]) -> ParsedSubmission
+    ensures { λ r. ⌜ r ≡ parsedSubmission (now (s .entry)) ⌝ }
 {
     if !rules::is_submission(s) {
         return refused(Answer::NotASubmission);
     }
     let count = read::module_count(s);
-    if MODULES < count {
+    if MAX_MODULES < count {
         return refused(Answer::BadSubmission);
     }
-    if s.len() < read::entry_at(count) {
+    if s.len() < read::entry_offset(count) {
         return refused(Answer::BadSubmission);
     }
     let laid = read::read_layout(s, count);
@@ -68,17 +68,17 @@ pub fn parse(s: &[u8]) -> Parsed
     if !rules::rules_hold(s, layout, laid.end) {
         return refused(Answer::BadSubmission);
     }
-    Parsed {
+    ParsedSubmission {
         answer: Answer::Load,
         layout,
     }
 }
 
 // A refusal has no parts.
-fn refused(a: Answer) -> Parsed
+fn refused(a: Answer) -> ParsedSubmission
     ensures { λ r. ⌜ r ≡ record { answer = a; layout = noLayout } ⌝ }
 {
-    Parsed {
+    ParsedSubmission {
         answer: a,
         layout: read::no_layout(),
     }

@@ -2,13 +2,13 @@
 ghost use mathlib.Core.Path.{_≡_};
 ghost use Prim.Native.Nat.{_+_, _^_, _≤_, _<_};
 ghost use lib.ListN.{length};
-ghost use Rattle.submission.specs.Format.{moduleCount, headerSize, entrySize, entryAt, entryOf, partsEnd, moduleFrom, moduleLimit, layoutOf, noLayout};
-use crate::ENTRY;
-use crate::HEADER;
+ghost use Rattle.submission.specs.Format.{moduleCount, prefixSize, tableEntrySize, entryOffset, tableEntry, partsEnd, moduleFrom, maxModules, layoutOf, noLayout};
 use crate::Layout;
-use crate::MODULES;
+use crate::MAX_MODULES;
 use crate::Module;
+use crate::PREFIX;
 use crate::Part;
+use crate::TABLE_ENTRY;
 
 // The parts of a submission, and where the last one ends.
 pub struct Laid {
@@ -17,7 +17,7 @@ pub struct Laid {
 }
 
 // What the table says of a module: the lengths of its data and its string, and two bytes that are to be zero.
-pub struct Entry {
+pub struct TableEntry {
     pub bytes: u32,
     pub string: u16,
     pub reserved: u16,
@@ -25,27 +25,27 @@ pub struct Entry {
 
 // How many modules the header announces.
 pub fn module_count(s: &[u8]) -> usize
-    requires { ⌜ headerSize ≤ length (now s) ⌝ }
+    requires { ⌜ prefixSize ≤ length (now s) ⌝ }
     ensures { λ r. ⌜ (r ≡ moduleCount (now (s .entry))) × (r < 2 ^ 8) ⌝ }
 {
     number::read_le(s, 5, 1) as usize
 }
 
 // Where the entry of module i begins, and behind the last entry the image.
-pub fn entry_at(i: usize) -> usize
-    requires { ⌜ entryAt i < 2 ^ 64 ⌝ }
-    ensures { λ r. ⌜ r ≡ entryAt i ⌝ }
+pub fn entry_offset(i: usize) -> usize
+    requires { ⌜ entryOffset i < 2 ^ 64 ⌝ }
+    ensures { λ r. ⌜ r ≡ entryOffset i ⌝ }
 {
-    HEADER + ENTRY * i
+    PREFIX + TABLE_ENTRY * i
 }
 
 // The entry of module i.
-pub fn read_entry(s: &[u8], i: usize) -> Entry
-    requires { ⌜ entryAt i + entrySize ≤ length (now s) ⌝ }
-    ensures { λ r. ⌜ r ≡ entryOf (now (s .entry)) i ⌝ }
+pub fn read_entry(s: &[u8], i: usize) -> TableEntry
+    requires { ⌜ entryOffset i + tableEntrySize ≤ length (now s) ⌝ }
+    ensures { λ r. ⌜ r ≡ tableEntry (now (s .entry)) i ⌝ }
 {
-    let at = entry_at(i);
-    Entry {
+    let at = entry_offset(i);
+    TableEntry {
         bytes: number::read_u32(s, at),
         string: number::read_u16(s, at + 4),
         reserved: number::read_u16(s, at + 6),
@@ -54,11 +54,11 @@ pub fn read_entry(s: &[u8], i: usize) -> Entry
 
 // The parts of a submission with `count` modules, whose table lies inside.
 pub fn read_layout(s: &[u8], count: usize) -> Laid
-    requires { ⌜ (count ≡ moduleCount (now s)) × (count ≤ moduleLimit) × (entryAt count ≤ length (now s)) ⌝ }
+    requires { ⌜ (count ≡ moduleCount (now s)) × (count ≤ maxModules) × (entryOffset count ≤ length (now s)) ⌝ }
     ensures { λ r. ⌜ (r .layout ≡ layoutOf (now (s .entry))) × (r .end ≡ partsEnd (now (s .entry))) ⌝ }
 {
     let image = Part {
-        at: entry_at(count),
+        at: entry_offset(count),
         len: number::read_u32(s, 6) as usize,
     };
     let line = Part {
@@ -87,7 +87,7 @@ pub fn read_layout(s: &[u8], count: usize) -> Laid
 }
 
 // The parts of a module with its data from `at` on.
-fn module_from(at: usize, entry: Entry) -> Module
+fn module_from(at: usize, entry: TableEntry) -> Module
     requires { ⌜ at < 2 ^ 63 ⌝ }
     ensures { λ r. ⌜ (r ≡ moduleFrom at entry) × (r .string .at + r .string .len < at + 2 ^ 33) ⌝ }
 {
@@ -113,7 +113,7 @@ pub fn no_layout() -> Layout
         modules: [Module {
             data: none,
             string: none,
-        }; MODULES],
+        }; MAX_MODULES],
         count: 0,
     }
 }

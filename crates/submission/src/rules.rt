@@ -3,22 +3,22 @@ ghost use mathlib.Core.Path.{_≡_};
 ghost use Prim.Native.Nat.{_≤_};
 ghost use lib.ListN.{length};
 ghost use Rattle.laws.specs.Tests.{allFrom};
-ghost use Rattle.submission.specs.Format.{moduleCount, entryAt, partsEnd, moduleLimit, layoutOf};
+ghost use Rattle.submission.specs.Format.{moduleCount, entryOffset, partsEnd, maxModules, layoutOf};
 ghost use Rattle.submission.specs.Rules.{isSubmission, inLimits, entryHolds, stringHolds, rulesHold};
-use crate::HEADER;
-use crate::LINE;
 use crate::Layout;
-use crate::STRING;
+use crate::MAX_LINE;
+use crate::MAX_STRING;
+use crate::PREFIX;
 use crate::bytes_of;
 use crate::read;
-use crate::read::Entry;
+use crate::read::TableEntry;
 use crate::scan;
 
 // Whether the header is there, with the mark and version 1.
 pub fn is_submission(s: &[u8]) -> bool
     ensures { λ r. ⌜ r ≡ isSubmission (now (s .entry)) ⌝ }
 {
-    if s.len() < HEADER {
+    if s.len() < PREFIX {
         return false;
     }
     if !scan::same_bytes(&s[..3], b"KSB") {
@@ -29,11 +29,11 @@ pub fn is_submission(s: &[u8]) -> bool
 
 // Whether every other rule holds, for a submission with these parts, the last of which ends at `end`.
 pub fn rules_hold(s: &[u8], l: Layout, end: usize) -> bool
-    requires { ⌜ (l ≡ layoutOf (now s)) × (end ≡ partsEnd (now s)) × (moduleCount (now s) ≤ moduleLimit) × (entryAt (moduleCount (now s)) ≤ length (now s)) ⌝ }
+    requires { ⌜ (l ≡ layoutOf (now s)) × (end ≡ partsEnd (now s)) × (moduleCount (now s) ≤ maxModules) × (entryOffset (moduleCount (now s)) ≤ length (now s)) ⌝ }
     ensures { λ r. ⌜ r ≡ rulesHold (now (s .entry)) ⌝ }
 {
     let line = l.line;
-    if LINE < line.len {
+    if MAX_LINE < line.len {
         return false;
     }
     if !entries_hold(s, l.count) {
@@ -50,7 +50,7 @@ pub fn rules_hold(s: &[u8], l: Layout, end: usize) -> bool
 
 // Whether the entry of each module holds.
 fn entries_hold(s: &[u8], count: usize) -> bool
-    requires { ⌜ (count ≤ moduleLimit) × (entryAt count ≤ length (now s)) ⌝ }
+    requires { ⌜ (count ≤ maxModules) × (entryOffset count ≤ length (now s)) ⌝ }
     ensures { λ r. ⌜ r ≡ allFrom (entryHolds (now (s .entry))) 0 count ⌝ }
 {
     let mut i = 0;
@@ -64,13 +64,13 @@ fn entries_hold(s: &[u8], count: usize) -> bool
 }
 
 // Whether a module has data, a string that is not too long, and zero where its entry is reserved.
-fn in_limits(entry: Entry) -> bool
+fn in_limits(entry: TableEntry) -> bool
     ensures { λ r. ⌜ r ≡ inLimits entry ⌝ }
 {
     if entry.bytes < 1 {
         return false;
     }
-    if STRING < entry.string {
+    if MAX_STRING < entry.string {
         return false;
     }
     entry.reserved == 0
@@ -78,7 +78,7 @@ fn in_limits(entry: Entry) -> bool
 
 // Whether no module's string holds a zero byte.
 fn strings_hold(s: &[u8], l: Layout) -> bool
-    requires { ⌜ (l ≡ layoutOf (now s)) × (moduleCount (now s) ≤ moduleLimit) ⌝ }
+    requires { ⌜ (l ≡ layoutOf (now s)) × (moduleCount (now s) ≤ maxModules) ⌝ }
     ensures { λ r. ⌜ r ≡ allFrom (stringHolds (now (s .entry))) 0 (moduleCount (now (s .entry))) ⌝ }
 {
     let count = l.count;

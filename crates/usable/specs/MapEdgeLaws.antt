@@ -12,7 +12,7 @@ use Rattle.laws.specs.TestLaws.{any-same}
 use Rattle.edge.specs.EdgeLaws.{Edge, Edges, edges-are}
 use Rattle.memory_map.specs.declared.MemMap.{MemMap}
 use Rattle.memory_map.specs.Pairs.{pairNo}
-use Rattle.usable.specs.Usable.{ram, limit, covers, usableBy, barredBy, usableAt}
+use Rattle.usable.specs.Usable.{ram, addressSpace, covers, usableBy, barredBy, isUsable}
 use Rattle.usable.specs.MapEdge.{mapEdge}
 
 module _ (m : MemMap) (x y k : ℕ) (h : (i : ℕ) → i < k → covers (pairNo m i) y ≡ covers (pairNo m i) x) where
@@ -29,18 +29,18 @@ module _ (m : MemMap) (x e : ℕ) (l : x < e) where
   unfolding covers mapEdge
   covered-same = edges-are (λ i. pairNo m i .base) (λ i. pairNo m i .base + pairNo m i .length) x e l (m .count)
 
-  pub map-edge-is : e ≤ limit → Edge (usableAt m) x e (mapEdge m x e)
-  unfolding usableAt
+  pub map-edge-is : e ≤ addressSpace → Edge (isUsable m) x e (mapEdge m x e)
+  unfolding isUsable
   map-edge-is top =
       let h = covered-same in
       record {
         past = h .past;
         near = h .near;
         same = λ y u v.
-            let ly : ltb y limit ≡ true = lt-ltb y limit (omega arith) in
-            let lx : ltb x limit ≡ true = lt-ltb x limit (omega arith) in
+            let ly : ltb y addressSpace ≡ true = lt-ltb y addressSpace (omega arith) in
+            let lx : ltb x addressSpace ≡ true = lt-ltb x addressSpace (omega arith) in
             rw (ly, lx, same-usable m x y (m .count) (λ i n. h .same i n y u v), same-barred m x y (m .count) (λ i n. h .same i n y u v));
       }
 
-  pub map-edge-at : (r : ℕ) → r ≡ mapEdge m x e → e ≤ limit → Edge (usableAt m) x e r
+  pub map-edge-at : (r : ℕ) → r ≡ mapEdge m x e → e ≤ addressSpace → Edge (isUsable m) x e r
   map-edge-at r q top = rw q (map-edge-is top)

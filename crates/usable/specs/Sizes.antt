@@ -6,16 +6,16 @@ use Prim.Native.Nat.{ℕ, _-_, _/_, min}
 use Rattle.laws.specs.Tests.{run}
 use Rattle.address.specs.Address.{floor}
 use Rattle.memory_map.specs.declared.MemMap.{MemMap}
-use Rattle.usable.specs.Usable.{limit, usableAt}
+use Rattle.usable.specs.Usable.{addressSpace, isUsable}
 
 abbrev pub kib : ℕ
 kib = 1024
 
-abbrev pub lowerMost : ℕ
-lowerMost = 640
+abbrev pub maxMemLower : ℕ
+maxMemLower = 640
 
 unfoldable pub memLower : MemMap → ℕ
-memLower m = min (run (usableAt m) 0 limit / kib) lowerMost
+memLower m = min (run (isUsable m) 0 addressSpace / kib) maxMemLower
 
 unfoldable pub memUpper : MemMap → ℕ
-memUpper m = run (usableAt m) floor (limit - floor) / kib
+memUpper m = run (isUsable m) floor (addressSpace - floor) / kib

@@ -1,8 +1,8 @@
 -- Which addresses are usable.                                                    rules: MAP, USABLE
---     ram, limit             the type of usable memory, and where usable addresses end
+--     ram, addressSpace             the type of usable memory, and where usable addresses end
 --     covers                 the pair covers the address
 --     usableBy, barredBy     a pair of usable memory covers it, or one of another type
---     usableAt               the address is usable
+--     isUsable               the address is usable
 -- Assumes nothing.
 use mathlib.Core.Bool.{Bool, not, _&&_}
 use Prim.Native.Nat.{ℕ, _+_, _^_}
@@ -16,8 +16,8 @@ use Rattle.memory_map.specs.Pairs.{pairNo}
 abbrev pub ram : ℕ
 ram = 1
 
-abbrev pub limit : ℕ
-limit = 2 ^ 32
+abbrev pub addressSpace : ℕ
+addressSpace = 2 ^ 32
 
 -- a pair covers the addresses from its base up to but not including base + length, an exact whole number
 unfoldable pub covers : Pair → ℕ → Bool
@@ -31,5 +31,5 @@ unfoldable pub barredBy : MemMap → ℕ → ℕ → Bool
 barredBy m a i = not (eqb (pairNo m i .kind) ram) && covers (pairNo m i) a
 
 -- an address below 2^32 is usable if some pair of type 1 covers it and no pair of another type does
-unfoldable pub usableAt : MemMap → ℕ → Bool
-usableAt m a = ltb a limit && any (usableBy m a) (m .count) && not (any (barredBy m a) (m .count))
+unfoldable pub isUsable : MemMap → ℕ → Bool
+isUsable m a = ltb a addressSpace && any (usableBy m a) (m .count) && not (any (barredBy m a) (m .count))

@@ -15,7 +15,7 @@ use Rattle.address.specs.InsideLaws.{inside-is}
 use Rattle.memory_map.specs.declared.Pair.{Pair}
 use Rattle.memory_map.specs.declared.MemMap.{MemMap}
 use Rattle.memory_map.specs.Pairs.{pairNo}
-use Rattle.usable.specs.Usable.{ram, limit, covers, usableBy, barredBy, usableAt}
+use Rattle.usable.specs.Usable.{ram, addressSpace, covers, usableBy, barredBy, isUsable}
 
 abbrev pub Covers : Pair → ℕ → Type 0
 Covers p a = (p .base ≤ a) × (a < p .base + p .length)
@@ -30,7 +30,7 @@ unfolding covers inside
 covers-exact = refl
 
 pub record Usable (m : MemMap) (a : ℕ) : Type 0 where
-  pub below : a < limit
+  pub below : a < addressSpace
   pub some : (i : ℕ) × (i < m .count) × (pairNo m i .kind ≡ ram) × Covers (pairNo m i) a
   pub none : (i : ℕ) → i < m .count → (pairNo m i .kind ≡ ram → ⊥) → Covers (pairNo m i) a → ⊥
 
@@ -51,23 +51,23 @@ module _ (m : MemMap) (a : ℕ) where
         λ h. rw (ne-eqb _ _ (h .0), covers-is (pairNo m i) a .1 (h .1)),
       )
 
-  pub usable-is : (usableAt m a ≡ true) ↔ Usable m a
-  unfolding usableAt
+  pub usable-is : (isUsable m a ≡ true) ↔ Usable m a
+  unfolding isUsable
   usable-is =
-      let A : Bool = ltb a limit in
+      let A : Bool = ltb a addressSpace in
       let U : Bool = any (usableBy m a) (m .count) in
       let B : Bool = any (barredBy m a) (m .count) in (
         λ e.
             let r = any-at (usableBy m a) (m .count) (and-right A U (and-left (A && U) (not B) e)) in
             let q = by-usable (r .0) .0 (r .2) in
             record {
-              below = ltb-true a limit (and-left A U (and-left (A && U) (not B) e));
+              below = ltb-true a addressSpace (and-left A U (and-left (A && U) (not B) e));
               some = (r .0, r .1, q .0, q .1);
               none = λ i l u c. false≢true (sym (none-any (barredBy m a) (m .count) (not-true B (and-right (A && U) (not B) e)) i l) ∙ by-barred i .1 (u, c));
             },
         λ h.
             let r = h .some in
-            let p : A ≡ true = lt-ltb a limit (h .below) in
+            let p : A ≡ true = lt-ltb a addressSpace (h .below) in
             let q : U ≡ true = any-here (usableBy m a) (m .count) (r .0) (r .1) (by-usable (r .0) .1 (r .2, r .3)) in
             let o : B ≡ false = any-none (barredBy m a) (m .count) (λ i l. ⊎-elim (λ t. let k = by-barred i .0 t in absurd (h .none i l (k .0) (k .1))) (λ t. t) (true-or-false (barredBy m a i))) in
             rw (p, q, o),

@@ -6,7 +6,7 @@ ghost use mathlib.Core.Path.{_≡_};
 ghost use Prim.Native.Nat.{_+_, _≤_};
 ghost use Rattle.edge.specs.Edge.{spanEdge};
 ghost use Rattle.memory_map.specs.Pairs.{maxPairs};
-ghost use Rattle.usable.specs.Usable.{covers, usableAt};
+ghost use Rattle.usable.specs.Usable.{covers, isUsable};
 ghost use Rattle.usable.specs.MapEdge.{mapEdge};
 
 pub mod sizes;
@@ -15,7 +15,7 @@ pub mod sizes;
 pub const RAM: u32 = 1;
 
 // Usable addresses are below this.
-pub const LIMIT: u64 = 0x100000000;
+pub const ADDRESS_SPACE: u64 = 0x100000000;
 
 // Whether the pair covers the address.
 fn pair_covers(pair: Pair, a: PhysAddr) -> bool
@@ -28,11 +28,11 @@ fn pair_covers(pair: Pair, a: PhysAddr) -> bool
 }
 
 // Whether the address is usable: some pair of usable memory covers it, and no pair of another type does.
-pub fn usable_at(map: MemMap, a: PhysAddr) -> bool
+pub fn is_usable(map: MemMap, a: PhysAddr) -> bool
     requires { ⌜ map .count ≤ maxPairs ⌝ }
-    ensures { λ r. ⌜ r ≡ usableAt map (a .0) ⌝ }
+    ensures { λ r. ⌜ r ≡ isUsable map (a .0) ⌝ }
 {
-    if LIMIT <= a.0 {
+    if ADDRESS_SPACE <= a.0 {
         return false;
     }
     let mut found = false;

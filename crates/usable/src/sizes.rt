@@ -1,33 +1,33 @@
 // The sizes of lower and upper memory.
-use crate::LIMIT;
+use crate::ADDRESS_SPACE;
+use crate::is_usable;
 use crate::map_edge;
-use crate::usable_at;
 use address::PhysAddr;
 use memory_map::MemMap;
 ghost use mathlib.Core.Path.{_≡_};
 ghost use Prim.Native.Nat.{_-_, _≤_};
 ghost use Rattle.laws.specs.Tests.{run};
 ghost use Rattle.memory_map.specs.Pairs.{maxPairs};
-ghost use Rattle.usable.specs.Usable.{limit, usableAt};
+ghost use Rattle.usable.specs.Usable.{addressSpace, isUsable};
 ghost use Rattle.usable.specs.Sizes.{memLower, memUpper};
 
 // Sizes are given in units of so many bytes.
 const KIB: u64 = 1024;
 
 // Lower memory is at most so many units.
-const LOWER_MOST: u64 = 640;
+const MAX_MEM_LOWER: u64 = 640;
 
 // The number of consecutive usable addresses from start on.
 fn usable_run(map: MemMap, start: PhysAddr) -> u64
     requires { ⌜ map .count ≤ maxPairs ⌝ }
-    ensures { λ r. ⌜ r ≡ run (usableAt map) (start .0) (limit - start .0) ⌝ }
+    ensures { λ r. ⌜ r ≡ run (isUsable map) (start .0) (addressSpace - start .0) ⌝ }
 {
     let mut x = start;
-    while x.0 < LIMIT {
-        if !usable_at(map, x) {
+    while x.0 < ADDRESS_SPACE {
+        if !is_usable(map, x) {
             return x.0 - start.0;
         }
-        x = map_edge(map, x, PhysAddr(LIMIT));
+        x = map_edge(map, x, PhysAddr(ADDRESS_SPACE));
     }
     x.0 - start.0
 }
@@ -38,10 +38,10 @@ pub fn mem_lower(map: MemMap) -> u32
     ensures { λ r. ⌜ r ≡ memLower map ⌝ }
 {
     let size = usable_run(map, PhysAddr(0)) / KIB;
-    if size < LOWER_MOST {
+    if size < MAX_MEM_LOWER {
         size as u32
     } else {
-        LOWER_MOST as u32
+        MAX_MEM_LOWER as u32
     }
 }
 

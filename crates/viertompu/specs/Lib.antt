@@ -1,4 +1,4 @@
 -- The definitions that the contracts of `viertompu` cite, and their laws.
 pub mod Words
-pub mod Rows
-pub mod RowLaws
+pub mod Joined
+pub mod JoinedLaws

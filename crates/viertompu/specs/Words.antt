@@ -1,6 +1,6 @@
 -- The plan as words.                                                                                    rule: PLAN
---     planLength, segmentsAt, modulesAt            how many words there are, and where segments and modules begin
---     segmentSize, moduleSize                      how many words each of them has
+--     planSize, firstSegment, firstModule            how many words there are, and where segments and modules begin
+--     wordsPerSegment, wordsPerModule                      how many words each of them has
 --     wordOf                                       an address or an offset as a word
 --     headWords, segmentWords, moduleWords         the words before the segments, of one segment, of one module
 --     segmentsWords, modulesWords                  of all segments, of all modules
@@ -8,30 +8,30 @@
 -- Assumes nothing.
 use mathlib.Core.List.{List, [], _∷_, _++_}
 use Prim.Native.Nat.{ℕ, _%_, _^_}
-use Rattle.memory.specs.Patched.{zeros}
+use Rattle.buffer.specs.Patched.{zeros}
 use Rattle.address.specs.declared.Span.{Span}
 use Rattle.address.specs.Address.{spanNo}
 use Rattle.answer.specs.Answer.{numberOf, itemOf}
-use Rattle.submission.specs.Format.{moduleLimit}
+use Rattle.submission.specs.Format.{maxModules}
 use Rattle.image.specs.declared.Kernel.{Kernel}
-use Rattle.image.specs.Judged.{segmentLimit, segmentNo}
+use Rattle.image.specs.Judged.{maxSegments, segmentNo}
 use Rattle.decision.specs.declared.Decision.{Decision}
-use Rattle.viertompu.specs.Rows.{rows}
+use Rattle.viertompu.specs.Joined.{joined}
 
-abbrev pub planLength : ℕ
-planLength = 96
+abbrev pub planSize : ℕ
+planSize = 96
 
-abbrev pub segmentsAt : ℕ
-segmentsAt = 8
+abbrev pub firstSegment : ℕ
+firstSegment = 8
 
-abbrev pub modulesAt : ℕ
-modulesAt = 56
+abbrev pub firstModule : ℕ
+firstModule = 56
 
-abbrev pub segmentSize : ℕ
-segmentSize = 3
+abbrev pub wordsPerSegment : ℕ
+wordsPerSegment = 3
 
-abbrev pub moduleSize : ℕ
-moduleSize = 2
+abbrev pub wordsPerModule : ℕ
+wordsPerModule = 2
 
 -- in a load every address and the header's offset are below 2^32
 abbrev pub wordOf : ℕ → ℕ
@@ -52,17 +52,17 @@ headWords d =
 
 -- start, load end, extent end
 abbrev pub segmentWords : Kernel → ℕ → List ℕ
-segmentWords k i = wordOf (segmentNo k i .start .0) ∷ wordOf (segmentNo k i .loaded .0) ∷ wordOf (segmentNo k i .end .0) ∷ []
+segmentWords k i = wordOf (segmentNo k i .start .0) ∷ wordOf (segmentNo k i .«load_end» .0) ∷ wordOf (segmentNo k i .«extent_end» .0) ∷ []
 
 -- start, end
 abbrev pub moduleWords : List Span → ℕ → List ℕ
 moduleWords m i = wordOf (spanNo m i .start .0) ∷ wordOf (spanNo m i .end .0) ∷ []
 
 abbrev pub segmentsWords : Kernel → List ℕ
-segmentsWords k = rows (segmentWords k) segmentLimit
+segmentsWords k = joined (segmentWords k) maxSegments
 
 abbrev pub modulesWords : List Span → List ℕ
-modulesWords m = rows (moduleWords m) moduleLimit
+modulesWords m = joined (moduleWords m) maxModules
 
 -- and eight zeros
 unfoldable pub planWords : Decision → List ℕ

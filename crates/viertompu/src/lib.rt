@@ -2,15 +2,15 @@
 use address::Span;
 use decision::Decision;
 use image::Kernel;
-use image::SEGMENTS;
-use submission::MODULES;
+use image::MAX_SEGMENTS;
+use submission::MAX_MODULES;
 ghost use mathlib.Core.Path.{_≡_};
 ghost use lib.ListN.{length};
-ghost use Rattle.memory.specs.Patched.{patched};
+ghost use Rattle.buffer.specs.Patched.{patched};
 ghost use Rattle.answer.specs.Answer.{numberOf};
 ghost use Rattle.decision.specs.Decision.{decisionOf};
 ghost use Rattle.loader.specs.Memory.{memoryAfter};
-ghost use Rattle.viertompu.specs.Words.{segmentsAt, modulesAt, wordOf, headWords, segmentsWords, modulesWords, planWords};
+ghost use Rattle.viertompu.specs.Words.{firstSegment, firstModule, wordOf, headWords, segmentsWords, modulesWords, planWords};
 
 // How many words a plan has.
 pub const WORDS: usize = 96;
@@ -33,14 +33,14 @@ pub const BLOCK_START: usize = 6;
 pub const BLOCK_END: usize = 7;
 
 // Segments, of three words each: start, load end, extent end.
-pub const SEGMENTS_AT: usize = 8;
+pub const FIRST_SEGMENT: usize = 8;
 
-pub const SEGMENT_WORDS: usize = 3;
+pub const WORDS_PER_SEGMENT: usize = 3;
 
 // Modules, of two words each: start, end.
-pub const MODULES_AT: usize = 56;
+pub const FIRST_MODULE: usize = 56;
 
-pub const MODULE_WORDS: usize = 2;
+pub const WORDS_PER_MODULE: usize = 2;
 
 // The words of 32 bits are the numbers below this.
 const WORD_RANGE: u64 = 0x100000000;
@@ -95,27 +95,27 @@ fn write_head(plan: &mut [u32; WORDS], decision: Decision)
 
 // Writes the words of the segments.
 fn write_segments(plan: &mut [u32; WORDS], kernel: Kernel)
-    ensures { λ _. ⌜ now (plan .exit) ≡ patched (now (plan .entry)) segmentsAt (segmentsWords kernel) ⌝ }
+    ensures { λ _. ⌜ now (plan .exit) ≡ patched (now (plan .entry)) firstSegment (segmentsWords kernel) ⌝ }
 {
     let mut i = 0;
-    while i < SEGMENTS {
+    while i < MAX_SEGMENTS {
         let segment = kernel.segments[i];
-        let at = SEGMENTS_AT + SEGMENT_WORDS * i;
+        let at = FIRST_SEGMENT + WORDS_PER_SEGMENT * i;
         plan[at] = word(segment.start.0);
-        plan[at + 1] = word(segment.loaded.0);
-        plan[at + 2] = word(segment.end.0);
+        plan[at + 1] = word(segment.load_end.0);
+        plan[at + 2] = word(segment.extent_end.0);
         i += 1;
     }
 }
 
 // Writes the words of the modules.
-fn write_modules(plan: &mut [u32; WORDS], modules: [Span; MODULES])
-    ensures { λ _. ⌜ now (plan .exit) ≡ patched (now (plan .entry)) modulesAt (modulesWords modules) ⌝ }
+fn write_modules(plan: &mut [u32; WORDS], modules: [Span; MAX_MODULES])
+    ensures { λ _. ⌜ now (plan .exit) ≡ patched (now (plan .entry)) firstModule (modulesWords modules) ⌝ }
 {
     let mut i = 0;
-    while i < MODULES {
+    while i < MAX_MODULES {
         let module = modules[i];
-        let at = MODULES_AT + MODULE_WORDS * i;
+        let at = FIRST_MODULE + WORDS_PER_MODULE * i;
         plan[at] = word(module.start.0);
         plan[at + 1] = word(module.end.0);
         i += 1;

@@ -9,7 +9,7 @@ use types.Run.{OneOf, miss}
 use Rattle.answer.specs.Answer.{itemOf}
 use Rattle.answer.specs.declared.Answer.{Answer}
 use Rattle.answer.proofs.Answer.{the-type}
-use Rattle.answer.specs.declared.Answer.the-variants.{Load, NotASubmission, BadSubmission, BadOperatorLine, WindowPastTop, BadMemoryMap, NoHeader, UnknownRequest, NoAddressFields, HeaderCutOff, LoadBeforeImage, NothingToLoad, LoadPastImage, BssBelowLoadEnd, EntryOutsideLoad, KernelNotOpen, NoRoomForModule, NoRoomForInformation}
+use Rattle.answer.specs.declared.Answer.the-variants.{Load, NotASubmission, BadSubmission, BadOperatorLine, WindowPastTop, BadMemoryMap, NoHeader, UnknownRequest, NoAddressFields, HeaderCutOff, LoadBeforeImage, NothingToLoad, LoadPastImage, BssBelowLoadEnd, EntryOutsideLoad, KernelNotOpen, NoRoomForModule, NoRoomForBlock}
 use Rattle.answer.proofs.item.Statement.{statement}
 use Rattle.answer.proofs.item.Tie as tie
 
@@ -36,7 +36,7 @@ no-item BssBelowLoadEnd h = refl
 no-item EntryOutsideLoad h = refl
 no-item KernelNotOpen h = refl
 no-item (NoRoomForModule i) h = absurd (miss others 16 tt h)
-no-item NoRoomForInformation h = refl
+no-item NoRoomForBlock h = refl
 
 enum-known-a : tie.Need-enum-known-a
 enum-known-a c = search needs

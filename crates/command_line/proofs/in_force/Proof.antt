@@ -8,33 +8,33 @@ use native.Mathlib.Omega.{arith}
 use borrow.Author.Needs.{needs}
 use borrow.Author.Tests.{not-true, not-false}
 use Rattle.answer.specs.Answer.{isLoad}
-use Rattle.answer.specs.Order.{passes-is}
+use Rattle.answer.specs.ChainLaws.{passes-is}
 use Rattle.answer.specs.declared.Answer.{Answer}
 use Rattle.answer.specs.declared.Answer.the-variants.{Load}
 use Rattle.laws.specs.Checks.{firstOf, passes}
-use Rattle.submission.specs.Format.{lineOf, layoutOf, bytesOf}
+use Rattle.submission.specs.Format.{linePart, layoutOf, bytesOf}
 use Rattle.submission.specs.FormatLaws.{layout-line}
-use Rattle.submission.specs.Rules.{submissionChecks, parsed}
+use Rattle.submission.specs.Rules.{submissionChecks, parsedSubmission}
 use Rattle.submission.specs.RuleLaws.{submission-refuses, parsed-layout}
 use Rattle.command_line.specs.CommandLine.{operatorChecks}
 use Rattle.command_line.specs.CommandLineLaws.{operator-refuses, line-refused-submission, line-refused-operator, line-of-operator, line-of-submission}
 use Rattle.submission.specs.declared.Layout.{Layout}
-use Rattle.submission.specs.declared.Parsed.{Parsed}
+use Rattle.submission.specs.declared.ParsedSubmission.{ParsedSubmission}
 use Rattle.command_line.proofs.in_force.Statement.{statement}
 use Rattle.command_line.proofs.in_force.Tie as tie
 
 -- whether an answer is a load tells whether no check applies
-of-submission : (s : List ℕ) (r : Parsed) (b : Bool) → r ≡ parsed s → b ≡ isLoad (r .answer) → passes (submissionChecks s) ≡ b
-unfolding parsed
-of-submission s r b e f = sym (passes-is (submissionChecks s) (submission-refuses s)) ∙ ap (λ (p : Parsed). isLoad (p .answer)) (sym e) ∙ sym f
+of-submission : (s : List ℕ) (r : ParsedSubmission) (b : Bool) → r ≡ parsedSubmission s → b ≡ isLoad (r .answer) → passes (submissionChecks s) ≡ b
+unfolding parsedSubmission
+of-submission s r b e f = sym (passes-is (submissionChecks s) (submission-refuses s)) ∙ ap (λ (p : ParsedSubmission). isLoad (p .answer)) (sym e) ∙ sym f
 
 of-operator : (line : List ℕ) (a : Answer) (b : Bool) → a ≡ firstOf (operatorChecks line) Load → b ≡ isLoad a → passes (operatorChecks line) ≡ b
 of-operator line a b e f = sym (passes-is (operatorChecks line) (operator-refuses line)) ∙ ap isLoad (sym e) ∙ sym f
 
 -- the line of the layout that was read
-line-is : (s : List ℕ) (r : Parsed) → r ≡ parsed s → passes (submissionChecks s) ≡ true → (text : List ℕ) → text ≡ bytesOf s (r .layout .line) → text ≡ bytesOf s (lineOf s)
+line-is : (s : List ℕ) (r : ParsedSubmission) → r ≡ parsedSubmission s → passes (submissionChecks s) ≡ true → (text : List ℕ) → text ≡ bytesOf s (r .layout .line) → text ≡ bytesOf s (linePart s)
 line-is s r e h text q =
-    let l : r .layout ≡ layoutOf s = ap (λ (p : Parsed). p .layout) e ∙ parsed-layout s h in
+    let l : r .layout ≡ layoutOf s = ap (λ (p : ParsedSubmission). p .layout) e ∙ parsed-layout s h in
     q ∙ ap (λ (m : Layout). bytesOf s (m .line)) l ∙ ap (bytesOf s) (layout-line s)
 
 parse-requires : tie.Need-parse-requires

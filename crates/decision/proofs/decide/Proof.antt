@@ -8,9 +8,9 @@ use Rattle.laws.specs.Checks.{firstOf}
 use Rattle.answer.specs.Answer.{isLoad}
 use Rattle.answer.specs.declared.Answer.the-variants.{Load}
 use Rattle.memory_map.specs.Pairs.{mapOf}
-use Rattle.decision.specs.Lent.{Lent, layoutIn, kernelIn, boardIn, blockIn}
+use Rattle.decision.specs.Lent.{Lent, layoutIn, kernelIn, boardIn, blockLengthIn}
 use Rattle.decision.specs.Decision.{lentChecks}
-use Rattle.decision.specs.DecisionLaws.{passed, prepared, block-small, verdict-is, layout-known, map-known, kernel-known, decided-refused, board-is, block-is, prepared-is, decision-is}
+use Rattle.decision.specs.DecisionLaws.{lent-passed, prepared, block-small, verdict-is, layout-known, map-known, kernel-known, decided-refused, board-is, block-length-is, prepared-is, decision-is}
 use borrow.Author.Needs.{needs}
 use Rattle.decision.proofs.decide.Statement.{statement}
 use Rattle.decision.proofs.decide.Tie as tie
@@ -82,13 +82,13 @@ block-length-requires : tie.Need-block-length-requires
 block-length-requires c κs =
     let d = c .before .before .before in
     let h = passes (c .before) in
-    let p = passed (x d) (loads d h) in
+    let p = lent-passed (x d) (loads d h) in
     rw (layout-is d h, c .in-force .ensures) (prepared (x d) p .modules, omega (arith, block-small (x d) p .1))
 
 window-span-requires : tie.Need-window-span-requires
 window-span-requires c κs =
     let d = c .before .before .before .before .before in
-    passed (x d) (loads d (passes (c .before .before .before))) .window
+    lent-passed (x d) (loads d (passes (c .before .before .before))) .window
 
 -- what the decision on memory is called with
 module _ (c : tie.After-kernel) where
@@ -98,14 +98,14 @@ module _ (c : tie.After-kernel) where
   loaded : isLoad (d .first-refusal .result) ≡ true
   loaded = passes (c .before .before .before .before .before)
 
-  block : c .before .before .before .block-length .result ≡ blockIn (x d)
-  block = block-is (x d) _ _ _ (layout-is d loaded) (c .before .before .before .before .in-force .ensures) (c .before .before .before .block-length .ensures)
+  block : c .before .before .before .block-length .result ≡ blockLengthIn (x d)
+  block = block-length-is (x d) _ _ _ (layout-is d loaded) (c .before .before .before .before .in-force .ensures) (c .before .before .before .block-length .ensures)
 
   board : record { map = d .before .before .before .before .before .parse2 .result .map; window = c .before .window-span .result } ≡ boardIn (x d)
   board = board-is (x d) _ _ (map-is d loaded) (c .before .window-span .ensures)
 
 decide-memory-requires : tie.Need-decide-memory-requires
-decide-memory-requires c κs = prepared-is (x (d c)) _ _ _ _ (board c) (kernel-is (d c) (loaded c)) (layout-is (d c) (loaded c)) (block c) (passed (x (d c)) (loads (d c) (loaded c)))
+decide-memory-requires c κs = prepared-is (x (d c)) _ _ _ _ (board c) (kernel-is (d c) (loaded c)) (layout-is (d c) (loaded c)) (block c) (lent-passed (x (d c)) (loads (d c) (loaded c)))
 
 returns-2 : tie.Need-returns-2
 returns-2 c =

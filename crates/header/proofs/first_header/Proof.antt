@@ -5,7 +5,7 @@ use Prim.Native.Nat.{_+_, _-_, _≤_}
 use native.Mathlib.Omega.{arith}
 use borrow.Author.Needs.{needs}
 use lib.ListN.{length, drop, length-drop}
-use Rattle.header.specs.Header.{headerLength, words, headerFrom}
+use Rattle.header.specs.Header.{shortHeader, words, headerFrom}
 use Rattle.header.specs.WalkLaws.{found-at, passed-at, none-left}
 use Rattle.header.proofs.first_header.Statement.{statement}
 use Rattle.header.proofs.first_header.Tie as tie
@@ -29,7 +29,7 @@ returns : tie.Need-returns Inv-loop μ-loop
 returns c =
     let at-loop = c .before .before .before in
     let at-start = at-loop .before .before in
-    let h : at-loop .loop .at + headerLength ≤ length (at-start .args .s .now) = omega arith in
+    let h : at-loop .loop .at + shortHeader ≤ length (at-start .args .s .now) = omega arith in
     sym (at-loop .loop .inv .1 ∙ found-at (at-loop .loop .at) (at-start .args .s .now) h (sym (c .before .is-header .ensures) ∙ c .if1 .taken))
 
 add-at : tie.Need-add-at Inv-loop μ-loop
@@ -42,7 +42,7 @@ loop-again : tie.Need-loop-again Inv-loop μ-loop
 loop-again c =
     let at-loop = c .before .before .before in
     let at-start = at-loop .before .before in
-    let h : at-loop .loop .at + headerLength ≤ length (at-start .args .s .now) = omega arith in (
+    let h : at-loop .loop .at + shortHeader ≤ length (at-start .args .s .now) = omega arith in (
       search needs,
       at-loop .loop .inv .1 ∙ passed-at (at-loop .loop .at) (at-start .args .s .now) h (sym (c .before .is-header .ensures) ∙ c .if1 .left),
     )

@@ -2,7 +2,7 @@
 -- Assumes nothing.
 use mathlib.Core.Path.{sym, _∙_}
 use borrow.Author.Needs.{needs}
-use Rattle.image.proofs.Refusals.{no-header}
+use Rattle.image.proofs.RefusalLaws.{no-header}
 use Rattle.image.proofs.judge.Statement.{statement}
 use Rattle.image.proofs.judge.Tie as tie
 
@@ -12,8 +12,8 @@ find-header-requires c κs = search needs
 enum-told : tie.Need-enum-told
 enum-told c = search needs
 
-refusal-requires : tie.Need-refusal-requires
-refusal-requires c κs = search needs
+refused-requires : tie.Need-refused-requires
+refused-requires c κs = search needs
 
 enum-known-at : tie.Need-enum-known-at
 enum-known-at c = search needs
@@ -22,7 +22,7 @@ judge-header-requires : tie.Need-judge-header-requires
 judge-header-requires c κs = sym (c .before .before .before .find-header .ensures) ∙ c .before .at .given .1
 
 returns : tie.Need-returns
-returns c = c .refusal .ensures ∙ no-header _ (sym (c .before .before .before .find-header .ensures) ∙ c .before .enum-told .given .1)
+returns c = c .refused .ensures ∙ no-header _ (sym (c .before .before .before .find-header .ensures) ∙ c .before .enum-told .given .1)
 
 returns-2 : tie.Need-returns-2
 returns-2 c = search needs
@@ -33,7 +33,7 @@ judge-spec =
     (tie.spec
     find-header-requires
     enum-told
-    refusal-requires
+    refused-requires
     enum-known-at
     judge-header-requires
     returns

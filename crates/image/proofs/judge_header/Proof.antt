@@ -5,15 +5,15 @@ use Prim.Native.Nat.{_+_, _≤_}
 use native.Mathlib.Omega.{arith}
 use lib.ListN.{length}
 use borrow.Author.Needs.{needs}
-use Rattle.header.specs.Header.{searched, headerLength}
+use Rattle.header.specs.Header.{searchLimit, shortHeader}
 use Rattle.header.specs.HeaderLaws.{header-lowest}
 use Rattle.image.specs.JudgedLaws.{not-cut-off}
-use Rattle.image.proofs.Tests.{told}
-use Rattle.image.proofs.Refusals.{Found, Whole, unknown-request, no-addresses, cut-off, before-image, load-left, offset-below}
+use Rattle.image.proofs.TestLaws.{told}
+use Rattle.image.proofs.RefusalLaws.{Found, Whole, unknown-request, no-addresses, cut-off, before-image, load-left, offset-below}
 use Rattle.image.proofs.judge_header.Statement.{statement}
 use Rattle.image.proofs.judge_header.Tie as tie
 
-inside : (c : tie.Start) → (c .args .at .0 + headerLength ≤ length (c .args .image .now)) × (c .args .at .0 + headerLength ≤ searched)
+inside : (c : tie.Start) → (c .args .at .0 + shortHeader ≤ length (c .args .image .now)) × (c .args .at .0 + shortHeader ≤ searchLimit)
 inside c = let h = header-lowest (c .args .image .now) (c .args .at) (c .pre) .0 in (h .whole, h .early)
 
 found : (c : tie.After-read-u32) → Found (c .before .before .args .image .now) (c .before .before .args .at) (c .read-u32 .result)
@@ -47,38 +47,38 @@ read-u32-requires c κs = omega (arith, inside (c .before))
 unknown-request-requires : tie.Need-unknown-request-requires
 unknown-request-requires c κs = search needs
 
-refusal-requires : tie.Need-refusal-requires
-refusal-requires c κs = search needs
+refused-requires : tie.Need-refused-requires
+refused-requires c κs = search needs
 
 returns : tie.Need-returns
 returns c =
     let first = c .before in
-    c .refusal .ensures ∙ unknown-request (found (first .before .before)) (told (first .before .unknown-request .ensures) (first .if1 .taken))
+    c .refused .ensures ∙ unknown-request (found (first .before .before)) (told (first .before .unknown-request .ensures) (first .if1 .taken))
 
 no-addresses-requires : tie.Need-no-addresses-requires
 no-addresses-requires c κs = search needs
 
-refusal-requires-2 : tie.Need-refusal-requires-2
-refusal-requires-2 c κs = search needs
+refused-requires-2 : tie.Need-refused-requires-2
+refused-requires-2 c κs = search needs
 
 returns-2 : tie.Need-returns-2
 returns-2 c =
     let second = c .before in
     let first = second .before .before in
-    c .refusal2 .ensures ∙ no-addresses (found (first .before .before)) (told (first .before .unknown-request .ensures) (first .if1 .left)) (told (second .before .no-addresses .ensures) (second .if2 .taken))
+    c .refused2 .ensures ∙ no-addresses (found (first .before .before)) (told (first .before .unknown-request .ensures) (first .if1 .left)) (told (second .before .no-addresses .ensures) (second .if2 .taken))
 
 cut-off-requires : tie.Need-cut-off-requires
 cut-off-requires c κs = search needs
 
-refusal-requires-3 : tie.Need-refusal-requires-3
-refusal-requires-3 c κs = search needs
+refused-requires-3 : tie.Need-refused-requires-3
+refused-requires-3 c κs = search needs
 
 returns-3 : tie.Need-returns-3
 returns-3 c =
     let third = c .before in
     let second = third .before .before in
     let first = second .before .before in
-    c .refusal3 .ensures ∙ cut-off (found (first .before .before)) (told (first .before .unknown-request .ensures) (first .if1 .left)) (told (second .before .no-addresses .ensures) (second .if2 .left)) (told (third .before .cut-off .ensures) (third .if3 .taken))
+    c .refused3 .ensures ∙ cut-off (found (first .before .before)) (told (first .before .unknown-request .ensures) (first .if1 .left)) (told (second .before .no-addresses .ensures) (second .if2 .left)) (told (third .before .cut-off .ensures) (third .if3 .taken))
 
 read-fields-requires : tie.Need-read-fields-requires
 read-fields-requires c κs = not-cut-off _ _ (told (c .before .cut-off .ensures) (c .if3 .left)) .1
@@ -89,8 +89,8 @@ load-offset-requires c κs = search needs
 enum-told : tie.Need-enum-told
 enum-told c = search needs
 
-refusal-requires-4 : tie.Need-refusal-requires-4
-refusal-requires-4 c κs = search needs
+refused-requires-4 : tie.Need-refused-requires-4
+refused-requires-4 c κs = search needs
 
 enum-known-offset : tie.Need-enum-known-offset
 enum-known-offset c = search needs
@@ -106,7 +106,7 @@ judge-load-requires c κs =
 returns-4 : tie.Need-returns-4
 returns-4 c =
     let at-offset = c .before .before .before in
-    c .refusal4 .ensures ∙ before-image (whole (at-offset .before)) (at-offset .load-offset .result) (at-offset .load-offset .ensures) (c .before .enum-told .given .1)
+    c .refused4 .ensures ∙ before-image (whole (at-offset .before)) (at-offset .load-offset .result) (at-offset .load-offset .ensures) (c .before .enum-told .given .1)
 
 returns-5 : tie.Need-returns-5
 returns-5 c =
@@ -121,18 +121,18 @@ judge-header-spec =
     add-read-u32
     read-u32-requires
     unknown-request-requires
-    refusal-requires
+    refused-requires
     returns
     no-addresses-requires
-    refusal-requires-2
+    refused-requires-2
     returns-2
     cut-off-requires
-    refusal-requires-3
+    refused-requires-3
     returns-3
     read-fields-requires
     load-offset-requires
     enum-told
-    refusal-requires-4
+    refused-requires-4
     enum-known-offset
     judge-load-requires
     returns-4

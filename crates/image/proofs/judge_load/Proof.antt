@@ -4,7 +4,7 @@ use mathlib.Core.Path.{_∙_}
 use Prim.Native.Nat.{_^_, _<_}
 use native.Mathlib.Omega.{arith}
 use borrow.Author.Needs.{needs}
-use Rattle.image.proofs.Refusals.{length-fits}
+use Rattle.image.proofs.RefusalLaws.{length-fits}
 use Rattle.image.proofs.judge_load.Statement.{statement}
 use Rattle.image.proofs.judge_load.Tie as tie
 
@@ -23,8 +23,8 @@ check-load-requires c κs = omega (arith, short c, c .before .pre .0 .load)
 on-pages-requires : tie.Need-on-pages-requires
 on-pages-requires c κs = search needs
 
-kernel-at-requires : tie.Need-kernel-at-requires
-kernel-at-requires c κs = omega (arith, short (c .before .before), c .before .before .before .pre .0 .load)
+kernel-for-requires : tie.Need-kernel-for-requires
+kernel-for-requires c κs = omega (arith, short (c .before .before), c .before .before .before .pre .0 .load)
 
 with-kernel-requires : tie.Need-with-kernel-requires
 with-kernel-requires c κs = search needs
@@ -34,7 +34,7 @@ returns c =
     let pages = c .before .before in
     let answer = pages .before in
     let len = answer .before in
-    c .with-kernel .ensures ∙ rw (c .before .kernel-at .ensures, pages .on-pages .ensures, answer .check-load .ensures, len .load-length .ensures)
+    c .with-kernel .ensures ∙ rw (c .before .kernel-for .ensures, pages .on-pages .ensures, answer .check-load .ensures, len .load-length .ensures)
 
 pub judge-load-spec : {M : Type 1} → statement M
 judge-load-spec =
@@ -43,6 +43,6 @@ judge-load-spec =
     load-length-requires
     check-load-requires
     on-pages-requires
-    kernel-at-requires
+    kernel-for-requires
     with-kernel-requires
     returns)

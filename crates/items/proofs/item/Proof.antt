@@ -1,8 +1,8 @@
--- `items::item` meets its contract: both branches are those of `itemNo`.
+-- `items::item` meets its contract: both branches are those of `loadItem`.
 -- Assumes nothing.
 use borrow.Author.Tests.{lt-ltb, le-ltb}
 use Rattle.submission.specs.Format.{moduleNo}
-use Rattle.items.specs.LoadItems.{itemNo}
+use Rattle.items.specs.LoadItems.{loadItem}
 use mathlib.Core.Bool.{Bool, false}
 use mathlib.Core.Path.{_≡_}
 use Prim.Native.Nat.{ℕ, _≤_, _<_}
@@ -13,12 +13,12 @@ use Rattle.items.proofs.item.Statement.{statement}
 use Rattle.items.proofs.item.Tie as tie
 
 module _ (l : Layout) (pages : Bool) (size i b : ℕ) where
-  module-item : i < l .count → b ≡ boundaryOf pages → record { length = moduleNo l i .«data» .len; boundary = b } ≡ itemNo l pages size i
-  unfolding itemNo
+  module-item : i < l .count → b ≡ boundaryOf pages → record { length = moduleNo l i .«data» .len; boundary = b } ≡ loadItem l pages size i
+  unfolding loadItem
   module-item h e = rw (lt-ltb i (l .count) h, e)
 
-  block-item : l .count ≤ i → b ≡ boundaryOf false → record { length = size; boundary = b } ≡ itemNo l pages size i
-  unfolding itemNo
+  block-item : l .count ≤ i → b ≡ boundaryOf false → record { length = size; boundary = b } ≡ loadItem l pages size i
+  unfolding loadItem
   block-item h e = rw (le-ltb i (l .count) h, e)
 
 mul-m : tie.Need-mul-m

@@ -6,13 +6,13 @@ use native.Mathlib.Omega.{arith}
 use Rattle.laws.specs.Table.{table}
 use Rattle.laws.specs.TableLaws.{table-none, table-more}
 use Rattle.placement.specs.Order.{maxItems, noItem}
-use Rattle.items.specs.LoadItems.{itemNo, itemsOf}
+use Rattle.items.specs.LoadItems.{loadItem, itemsOf}
 use borrow.Author.Needs.{needs}
 use Rattle.items.proofs.items.Statement.{statement}
 use Rattle.items.proofs.items.Tie as tie
 
 abbrev Inv-loop : tie.InvT-loop
-Inv-loop layout pages size list₀ i₀ list i = (i ≤ layout .count + 1) × (list ≡ table (itemNo layout pages size) i maxItems noItem)
+Inv-loop layout pages size list₀ i₀ list i = (i ≤ layout .count + 1) × (list ≡ table (loadItem layout pages size) i maxItems noItem)
 
 abbrev μ-loop : tie.MeasureT-loop
 μ-loop layout pages size list₀ i₀ list i = layout .count + 1 - i
@@ -39,7 +39,7 @@ loop-again : tie.Need-loop-again Inv-loop μ-loop
 loop-again c =
     let at-loop = c .before .before .before in
     let start = at-loop .before .args in
-    (search needs, cc (table-more (itemNo (start .layout) (start .pages) (start .size)) maxItems noItem (at-loop .loop .i) (search needs)))
+    (search needs, cc (table-more (loadItem (start .layout) (start .pages) (start .size)) maxItems noItem (at-loop .loop .i) (search needs)))
 
 returns : tie.Need-returns Inv-loop μ-loop
 unfolding itemsOf

@@ -6,16 +6,15 @@ use native.Mathlib.Omega.{arith}
 use lib.ListN.{replicate}
 use Rattle.laws.specs.Table.{table}
 use Rattle.laws.specs.TableLaws.{table-none, table-more}
-use Rattle.submission.specs.Format.{moduleLimit}
-use Rattle.placement.specs.Free.{spanAt}
-use Rattle.address.specs.Address.{noSpan}
+use Rattle.submission.specs.Format.{maxModules}
+use Rattle.address.specs.Address.{noSpan, spanNo}
 use Rattle.items.specs.LoadItems.{moduleSpans}
 use borrow.Author.Needs.{needs}
 use Rattle.items.proofs.module_spans.Statement.{statement}
 use Rattle.items.proofs.module_spans.Tie as tie
 
 abbrev Inv-loop : tie.InvT-loop
-Inv-loop from count spans list₀ i₀ list i = (i ≤ count) × (list ≡ table (λ j. spanAt spans (from + j)) i moduleLimit noSpan)
+Inv-loop from count spans list₀ i₀ list i = (i ≤ count) × (list ≡ table (λ j. spanNo (spans .list) (from + j)) i maxModules noSpan)
 
 abbrev μ-loop : tie.MeasureT-loop
 μ-loop from count spans list₀ i₀ list i = count - i
@@ -24,7 +23,7 @@ none-requires : tie.Need-none-requires Inv-loop μ-loop
 none-requires c κs = search needs
 
 loop-holds : tie.Need-loop-holds Inv-loop μ-loop
-loop-holds c = (search needs, ap (replicate moduleLimit) (c .none .ensures) ∙ table-none _ moduleLimit noSpan)
+loop-holds c = (search needs, ap (replicate maxModules) (c .none .ensures) ∙ table-none _ maxModules noSpan)
 
 add-list : tie.Need-add-list Inv-loop μ-loop
 add-list c = search needs
@@ -51,7 +50,7 @@ loop-again : tie.Need-loop-again Inv-loop μ-loop
 loop-again c =
     let at-loop = c .before .before in
     let start = at-loop .before .before .args in
-    (search needs, cc (table-more (λ j. spanAt (start .t1) (start .from + j)) moduleLimit noSpan (at-loop .loop .i) (search needs)))
+    (search needs, cc (table-more (λ j. spanNo (start .t1 .list) (start .from + j)) maxModules noSpan (at-loop .loop .i) (search needs)))
 
 returns : tie.Need-returns Inv-loop μ-loop
 unfolding moduleSpans

@@ -7,7 +7,7 @@ use borrow.Author.Needs.{needs}
 use lib.ListN.{drop}
 use Rattle.number.specs.Number.{number}
 use Rattle.number.specs.NumberLaws.{Bytes, bytes-drop, number-bound}
-use Rattle.number.proofs.Turns.{read-more, read-room, read-all, read-none}
+use Rattle.number.proofs.TurnLaws.{read-more, read-room, read-all, read-none}
 use Rattle.number.proofs.read_le.Statement.{statement}
 use Rattle.number.proofs.read_le.Tie as tie
 

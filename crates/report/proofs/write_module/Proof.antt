@@ -4,7 +4,7 @@ use mathlib.Core.List.{_++_}
 use native.Mathlib.Omega.{arith}
 use Rattle.report.specs.Text.{decimalText}
 use Rattle.report.specs.TextLaws.{decimal-short, wrote-nothing, wrote-behind}
-use Rattle.report.specs.Report.{moduleWord}
+use Rattle.report.specs.Report.{moduleLabel}
 use Rattle.report.specs.ReportLaws.{module-none, module-line}
 use borrow.Author.Needs.{needs}
 use Rattle.report.proofs.write_module.Statement.{statement}
@@ -67,9 +67,9 @@ returns-2 c =
     let word = index .before .before .before .before in
     let some = word .before .before .before in
     let start = some .before .before .before .args in
-    let label = wrote-behind (start .text .now) (start .at) moduleWord (decimalText (start .i)) _ _ _ _ (word .write-text .ensures) (index .write-decimal .ensures) in
+    let label = wrote-behind (start .text .now) (start .at) moduleLabel (decimalText (start .i)) _ _ _ _ (word .write-text .ensures) (index .write-decimal .ensures) in
     rw (← module-line (start .plan .now) (start .i) (some .if1 .left))
-    (wrote-behind (start .text .now) (start .at) (moduleWord ++ decimalText (start .i)) _ _ _ _ _ label (fields .write-fields .ensures))
+    (wrote-behind (start .text .now) (start .at) (moduleLabel ++ decimalText (start .i)) _ _ _ _ _ label (fields .write-fields .ensures))
 
 pub write-module-spec : {M : Type 1} → statement M
 write-module-spec =

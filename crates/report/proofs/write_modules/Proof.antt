@@ -4,31 +4,31 @@ use mathlib.Core.Path.{_≡_, _∙_}
 use Prim.Native.Nat.{_-_, _≤_}
 use native.Mathlib.Omega.{arith}
 use lib.ListN.{length}
-use Rattle.viertompu.specs.Rows.{rows}
-use Rattle.viertompu.specs.RowLaws.{rows-short}
-use Rattle.submission.specs.Format.{moduleLimit}
+use Rattle.viertompu.specs.Joined.{joined}
+use Rattle.viertompu.specs.JoinedLaws.{joined-short}
+use Rattle.submission.specs.Format.{maxModules}
 use Rattle.report.specs.Text.{Wrote}
 use Rattle.report.specs.TextLaws.{wrote-nothing, wrote-row}
-use Rattle.report.specs.Report.{moduleLine, lineLimit}
+use Rattle.report.specs.Report.{moduleLine, maxLineText}
 use Rattle.report.specs.ReportLaws.{module-short}
 use borrow.Author.Needs.{needs}
 use Rattle.report.proofs.write_modules.Statement.{statement}
 use Rattle.report.proofs.write_modules.Tie as tie
 
 abbrev Inv-loop : tie.InvT-loop
-Inv-loop text₀ at plan next₀ i₀ text next i = (i ≤ moduleLimit) × Wrote text₀ at (rows (moduleLine plan) i) text next × (length text ≡ length text₀)
+Inv-loop text₀ at plan next₀ i₀ text next i = (i ≤ maxModules) × Wrote text₀ at (joined (moduleLine plan) i) text next × (length text ≡ length text₀)
 
 abbrev μ-loop : tie.MeasureT-loop
-μ-loop text₀ at plan next₀ i₀ text next i = moduleLimit - i
+μ-loop text₀ at plan next₀ i₀ text next i = maxModules - i
 
 loop-holds : tie.Need-loop-holds Inv-loop μ-loop
-unfolding rows
+unfolding joined
 loop-holds c = (search needs, wrote-nothing _ _, search needs)
 
 write-module-requires : tie.Need-write-module-requires Inv-loop μ-loop
 write-module-requires c κs =
     let at-loop = c .before .before in
-    (search needs, omega (arith, at-loop .loop .inv .1 .ends, rows-short (moduleLine (at-loop .before .before .args .plan .now)) lineLimit (module-short (at-loop .before .before .args .plan .now)) (at-loop .loop .i)))
+    (search needs, omega (arith, at-loop .loop .inv .1 .ends, joined-short (moduleLine (at-loop .before .before .args .plan .now)) maxLineText (module-short (at-loop .before .before .args .plan .now)) (at-loop .loop .i)))
 
 add-i : tie.Need-add-i Inv-loop μ-loop
 add-i c = search needs
@@ -46,7 +46,7 @@ same-length c = search needs
 
 returns : tie.Need-returns Inv-loop μ-loop
 returns c =
-    let e : c .before .loop .i ≡ moduleLimit = omega arith in
+    let e : c .before .loop .i ≡ maxModules = omega arith in
     rw e at (c .before .loop .inv .1)
 
 pub write-modules-spec : {M : Type 1} → statement M

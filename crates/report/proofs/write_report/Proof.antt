@@ -2,12 +2,12 @@
 -- Assumes nothing.
 use Prim.Native.Nat.{_+_, _*_, _≤_}
 use native.Mathlib.Omega.{arith}
-use Rattle.viertompu.specs.RowLaws.{rows-short}
-use Rattle.submission.specs.Format.{moduleLimit}
-use Rattle.image.specs.Judged.{segmentLimit}
-use Rattle.report.specs.Report.{lineLimit, numberIn, itemIn, segmentLine, moduleLine}
+use Rattle.viertompu.specs.JoinedLaws.{joined-short}
+use Rattle.submission.specs.Format.{maxModules}
+use Rattle.image.specs.Judged.{maxSegments}
+use Rattle.report.specs.Report.{maxLineText, numberWord, itemWord, segmentLine, moduleLine}
 use Rattle.report.specs.ReportLaws.{segment-short, module-short, refusal-short, report-of-refusal, report-short}
-use Rattle.report.proofs.Turns.{load-written}
+use Rattle.report.proofs.TurnLaws.{load-written}
 use borrow.Author.Needs.{needs}
 use Rattle.report.proofs.write_report.Statement.{statement}
 use Rattle.report.proofs.write_report.Tie as tie
@@ -32,22 +32,22 @@ returns c =
     let line = c .before .before in
     let refused = line .before .before .before .before in
     let p = refused .before .before .before .args .plan .now in
-    (rw (← report-of-refusal p (refused .if1 .taken)) (line .write-refusal .ensures), omega (arith, line .write-refusal .ensures .ends, refusal-short (numberIn p) (itemIn p)))
+    (rw (← report-of-refusal p (refused .if1 .taken)) (line .write-refusal .ensures), omega (arith, line .write-refusal .ensures .ends, refusal-short (numberWord p) (itemWord p)))
 
 write-segments-requires : tie.Need-write-segments-requires
 write-segments-requires c κs = search needs
 
 -- where the lines of the segments end, and those of the modules
-segments-end : (c : tie.After-write-segments) → c .write-segments .result ≤ lineLimit * segmentLimit
+segments-end : (c : tie.After-write-segments) → c .write-segments .result ≤ maxLineText * maxSegments
 segments-end c =
     let p = c .before .before .before .before .before .args .plan .now in
-    omega (arith, c .write-segments .ensures .ends, rows-short (segmentLine p) lineLimit (segment-short p) segmentLimit)
+    omega (arith, c .write-segments .ensures .ends, joined-short (segmentLine p) maxLineText (segment-short p) maxSegments)
 
-modules-end : (c : tie.After-write-modules) → c .write-modules .result ≤ lineLimit * segmentLimit + lineLimit * moduleLimit
+modules-end : (c : tie.After-write-modules) → c .write-modules .result ≤ maxLineText * maxSegments + maxLineText * maxModules
 modules-end c =
     let segments = c .before .before .before .before in
     let p = segments .before .before .before .before .before .args .plan .now in
-    omega (arith, c .write-modules .ensures .ends, segments-end segments, rows-short (moduleLine p) lineLimit (module-short p) moduleLimit)
+    omega (arith, c .write-modules .ensures .ends, segments-end segments, joined-short (moduleLine p) maxLineText (module-short p) maxModules)
 
 write-modules-requires : tie.Need-write-modules-requires
 write-modules-requires c κs = omega (arith, segments-end (c .before .before .before))

@@ -4,31 +4,31 @@ use mathlib.Core.Path.{_≡_, _∙_}
 use Prim.Native.Nat.{_-_, _≤_}
 use native.Mathlib.Omega.{arith}
 use lib.ListN.{length}
-use Rattle.viertompu.specs.Rows.{rows}
-use Rattle.viertompu.specs.RowLaws.{rows-short}
-use Rattle.image.specs.Judged.{segmentLimit}
+use Rattle.viertompu.specs.Joined.{joined}
+use Rattle.viertompu.specs.JoinedLaws.{joined-short}
+use Rattle.image.specs.Judged.{maxSegments}
 use Rattle.report.specs.Text.{Wrote}
 use Rattle.report.specs.TextLaws.{wrote-nothing, wrote-row}
-use Rattle.report.specs.Report.{segmentLine, lineLimit}
+use Rattle.report.specs.Report.{segmentLine, maxLineText}
 use Rattle.report.specs.ReportLaws.{segment-short}
 use borrow.Author.Needs.{needs}
 use Rattle.report.proofs.write_segments.Statement.{statement}
 use Rattle.report.proofs.write_segments.Tie as tie
 
 abbrev Inv-loop : tie.InvT-loop
-Inv-loop text₀ plan next₀ i₀ text next i = (i ≤ segmentLimit) × Wrote text₀ 0 (rows (segmentLine plan) i) text next × (length text ≡ length text₀)
+Inv-loop text₀ plan next₀ i₀ text next i = (i ≤ maxSegments) × Wrote text₀ 0 (joined (segmentLine plan) i) text next × (length text ≡ length text₀)
 
 abbrev μ-loop : tie.MeasureT-loop
-μ-loop text₀ plan next₀ i₀ text next i = segmentLimit - i
+μ-loop text₀ plan next₀ i₀ text next i = maxSegments - i
 
 loop-holds : tie.Need-loop-holds Inv-loop μ-loop
-unfolding rows
+unfolding joined
 loop-holds c = (search needs, wrote-nothing _ 0, search needs)
 
 write-segment-requires : tie.Need-write-segment-requires Inv-loop μ-loop
 write-segment-requires c κs =
     let at-loop = c .before .before in
-    (search needs, omega (arith, at-loop .loop .inv .1 .ends, rows-short (segmentLine (at-loop .before .before .args .plan .now)) lineLimit (segment-short (at-loop .before .before .args .plan .now)) (at-loop .loop .i)))
+    (search needs, omega (arith, at-loop .loop .inv .1 .ends, joined-short (segmentLine (at-loop .before .before .args .plan .now)) maxLineText (segment-short (at-loop .before .before .args .plan .now)) (at-loop .loop .i)))
 
 add-i : tie.Need-add-i Inv-loop μ-loop
 add-i c = search needs
@@ -46,7 +46,7 @@ same-length c = search needs
 
 returns : tie.Need-returns Inv-loop μ-loop
 returns c =
-    let e : c .before .loop .i ≡ segmentLimit = omega arith in
+    let e : c .before .loop .i ≡ maxSegments = omega arith in
     rw e at (c .before .loop .inv .1)
 
 pub write-segments-spec : {M : Type 1} → statement M

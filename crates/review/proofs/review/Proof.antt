@@ -3,7 +3,7 @@
 use Prim.Native.Nat.{ℕ}
 use lib.ListN.{length-replicate}
 use Rattle.review.specs.Review.{windowLength}
-use Rattle.review.proofs.Reviewed.{map-is, reviewed}
+use Rattle.review.proofs.ReviewLaws.{map-is, reviewed}
 use borrow.Author.Needs.{needs}
 use Rattle.review.proofs.review.Statement.{statement}
 use Rattle.review.proofs.review.Tie as tie

@@ -9,12 +9,12 @@ use Rattle.answer.specs.declared.Answer.the-variants.{Load}
 use Rattle.submission.specs.Rules.{isSubmission}
 use Rattle.submission.specs.RuleLaws.{header-inside}
 use Rattle.submission.specs.declared.Layout.{Layout}
-use Rattle.submission.specs.declared.Parsed.{Parsed}
-use Rattle.submission.proofs.Judged.{too-many, table-outside, not-submission, bad-submission, good-submission}
+use Rattle.submission.specs.declared.ParsedSubmission.{ParsedSubmission}
+use Rattle.submission.proofs.ParseLaws.{too-many, table-outside, not-parsed, bad-parsed, good-parsed}
 use Rattle.submission.proofs.parse.Statement.{statement}
 use Rattle.submission.proofs.parse.Tie as tie
 
-abbrev loaded : Layout → Parsed
+abbrev loaded : Layout → ParsedSubmission
 loaded l = record { answer = Load; layout = l }
 
 -- behind the first test
@@ -30,7 +30,7 @@ refused-requires c κs = search needs
 returns : tie.Need-returns
 returns c =
     let judged = c .before .before in
-    c .refused .ensures ∙ not-submission (judged .before .before .args .s .now) (sym (judged .is-submission .ensures) ∙ not-true _ (c .before .if1 .taken))
+    c .refused .ensures ∙ not-parsed (judged .before .before .args .s .now) (sym (judged .is-submission .ensures) ∙ not-true _ (c .before .if1 .taken))
 
 module-count-requires : tie.Need-module-count-requires
 module-count-requires c κs = header-inside (c .before .before .before .args .s .now) (marked c)
@@ -42,10 +42,10 @@ returns-2 : tie.Need-returns-2
 returns-2 c =
     let first = c .before .before .before in
     let s = first .before .before .before .args .s .now in
-    c .refused2 .ensures ∙ bad-submission s (marked first) (too-many s (omega arith))
+    c .refused2 .ensures ∙ bad-parsed s (marked first) (too-many s (omega arith))
 
-entry-at-requires : tie.Need-entry-at-requires
-entry-at-requires c κs = search needs
+entry-offset-requires : tie.Need-entry-offset-requires
+entry-offset-requires c κs = search needs
 
 refused-requires-3 : tie.Need-refused-requires-3
 refused-requires-3 c κs = search needs
@@ -54,7 +54,7 @@ returns-3 : tie.Need-returns-3
 returns-3 c =
     let first = c .before .before .before .before .before in
     let s = first .before .before .before .args .s .now in
-    c .refused3 .ensures ∙ bad-submission s (marked first) (table-outside s (omega arith))
+    c .refused3 .ensures ∙ bad-parsed s (marked first) (table-outside s (omega arith))
 
 read-layout-requires : tie.Need-read-layout-requires
 read-layout-requires c κs = search needs
@@ -70,14 +70,14 @@ returns-4 c =
     let judged = c .before .before in
     let first = judged .before .before .before .before .before .before .before in
     let s = first .before .before .before .args .s .now in
-    c .refused4 .ensures ∙ bad-submission s (marked first) (sym (judged .rules-hold .ensures) ∙ not-true _ (c .before .if4 .taken))
+    c .refused4 .ensures ∙ bad-parsed s (marked first) (sym (judged .rules-hold .ensures) ∙ not-true _ (c .before .if4 .taken))
 
 returns-5 : tie.Need-returns-5
 returns-5 c =
     let judged = c .before in
     let first = judged .before .before .before .before .before .before .before in
     let s = first .before .before .before .args .s .now in
-    ap loaded (judged .before .before .read-layout .ensures .0) ∙ good-submission s (marked first) (sym (judged .rules-hold .ensures) ∙ not-false _ (c .if4 .left))
+    ap loaded (judged .before .before .read-layout .ensures .0) ∙ good-parsed s (marked first) (sym (judged .rules-hold .ensures) ∙ not-false _ (c .if4 .left))
 
 pub parse-spec : {M : Type 1} → statement M
 parse-spec =
@@ -89,7 +89,7 @@ parse-spec =
     module-count-requires
     refused-requires-2
     returns-2
-    entry-at-requires
+    entry-offset-requires
     refused-requires-3
     returns-3
     read-layout-requires

@@ -3,24 +3,24 @@
 use mathlib.Core.Path.{_≡_, sym, ap, _∙_}
 use Prim.Native.Nat.{ℕ, _-_, _≤_}
 use native.Mathlib.Omega.{arith}
-use Rattle.memory.specs.Patched.{patched}
-use Rattle.memory.specs.PatchedLaws.{patched-nil}
-use Rattle.submission.specs.Format.{moduleLimit}
-use Rattle.viertompu.specs.Words.{modulesAt, moduleWords}
-use Rattle.viertompu.specs.Rows.{rows}
-use Rattle.viertompu.proofs.Turns.{module-written}
+use Rattle.buffer.specs.Patched.{patched}
+use Rattle.buffer.specs.PatchedLaws.{patched-nil}
+use Rattle.submission.specs.Format.{maxModules}
+use Rattle.viertompu.specs.Words.{firstModule, moduleWords}
+use Rattle.viertompu.specs.Joined.{joined}
+use Rattle.viertompu.proofs.TurnLaws.{module-written}
 use borrow.Author.Needs.{needs}
 use Rattle.viertompu.proofs.write_modules.Statement.{statement}
 use Rattle.viertompu.proofs.write_modules.Tie as tie
 
 abbrev Inv-loop : tie.InvT-loop
-Inv-loop plan₀ modules i₀ plan i = (i ≤ moduleLimit) × (plan ≡ patched plan₀ modulesAt (rows (moduleWords modules) i))
+Inv-loop plan₀ modules i₀ plan i = (i ≤ maxModules) × (plan ≡ patched plan₀ firstModule (joined (moduleWords modules) i))
 
 abbrev μ-loop : tie.MeasureT-loop
-μ-loop plan₀ modules i₀ plan i = moduleLimit - i
+μ-loop plan₀ modules i₀ plan i = maxModules - i
 
 loop-holds : tie.Need-loop-holds Inv-loop μ-loop
-unfolding rows
+unfolding joined
 loop-holds c = (search needs, sym (patched-nil _ _))
 
 mul-module : tie.Need-mul-module Inv-loop μ-loop
@@ -69,8 +69,8 @@ loop-again c =
 
 returns : tie.Need-returns Inv-loop μ-loop
 returns c =
-    let e : c .before .loop .i ≡ moduleLimit = omega arith in
-    c .before .loop .inv .1 ∙ ap (λ (n : ℕ). patched (c .before .before .args .plan .now) modulesAt (rows (moduleWords (c .before .before .args .t2)) n)) e
+    let e : c .before .loop .i ≡ maxModules = omega arith in
+    c .before .loop .inv .1 ∙ ap (λ (n : ℕ). patched (c .before .before .args .plan .now) firstModule (joined (moduleWords (c .before .before .args .t2)) n)) e
 
 pub write-modules-spec : {M : Type 1} → statement M
 write-modules-spec =

@@ -3,24 +3,24 @@
 use mathlib.Core.Path.{_≡_, sym, ap, _∙_}
 use Prim.Native.Nat.{ℕ, _-_, _≤_}
 use native.Mathlib.Omega.{arith}
-use Rattle.memory.specs.Patched.{patched}
-use Rattle.memory.specs.PatchedLaws.{patched-nil}
-use Rattle.image.specs.Judged.{segmentLimit}
-use Rattle.viertompu.specs.Words.{segmentsAt, segmentWords}
-use Rattle.viertompu.specs.Rows.{rows}
-use Rattle.viertompu.proofs.Turns.{segment-written}
+use Rattle.buffer.specs.Patched.{patched}
+use Rattle.buffer.specs.PatchedLaws.{patched-nil}
+use Rattle.image.specs.Judged.{maxSegments}
+use Rattle.viertompu.specs.Words.{firstSegment, segmentWords}
+use Rattle.viertompu.specs.Joined.{joined}
+use Rattle.viertompu.proofs.TurnLaws.{segment-written}
 use borrow.Author.Needs.{needs}
 use Rattle.viertompu.proofs.write_segments.Statement.{statement}
 use Rattle.viertompu.proofs.write_segments.Tie as tie
 
 abbrev Inv-loop : tie.InvT-loop
-Inv-loop plan₀ kernel i₀ plan i = (i ≤ segmentLimit) × (plan ≡ patched plan₀ segmentsAt (rows (segmentWords kernel) i))
+Inv-loop plan₀ kernel i₀ plan i = (i ≤ maxSegments) × (plan ≡ patched plan₀ firstSegment (joined (segmentWords kernel) i))
 
 abbrev μ-loop : tie.MeasureT-loop
-μ-loop plan₀ kernel i₀ plan i = segmentLimit - i
+μ-loop plan₀ kernel i₀ plan i = maxSegments - i
 
 loop-holds : tie.Need-loop-holds Inv-loop μ-loop
-unfolding rows
+unfolding joined
 loop-holds c = (search needs, sym (patched-nil _ _))
 
 mul-segment : tie.Need-mul-segment Inv-loop μ-loop
@@ -81,8 +81,8 @@ loop-again c =
 
 returns : tie.Need-returns Inv-loop μ-loop
 returns c =
-    let e : c .before .loop .i ≡ segmentLimit = omega arith in
-    c .before .loop .inv .1 ∙ ap (λ (n : ℕ). patched (c .before .before .args .plan .now) segmentsAt (rows (segmentWords (c .before .before .args .t2)) n)) e
+    let e : c .before .loop .i ≡ maxSegments = omega arith in
+    c .before .loop .inv .1 ∙ ap (λ (n : ℕ). patched (c .before .before .args .plan .now) firstSegment (joined (segmentWords (c .before .before .args .t2)) n)) e
 
 pub write-segments-spec : {M : Type 1} → statement M
 write-segments-spec =

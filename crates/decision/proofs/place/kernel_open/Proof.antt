@@ -11,7 +11,7 @@ use Rattle.laws.specs.TestLaws.{all-intro, all-not}
 use Rattle.address.specs.declared.Span.{Span}
 use Rattle.image.specs.declared.Kernel.{Kernel}
 use Rattle.board.specs.declared.Board.{Board}
-use Rattle.board.specs.Open.{openAt}
+use Rattle.board.specs.Open.{isOpen}
 use Rattle.items.specs.LoadItems.{extentNo}
 use Rattle.decision.specs.Decided.{extentOpen, kernelOpen}
 use borrow.Author.Needs.{needs}
@@ -34,7 +34,7 @@ all-open-requires : tie.Need-all-open-requires Inv-loop μ-loop
 all-open-requires c κs = search needs
 
 -- what a turn learns of the extent i
-module _ (b : Board) (k : Kernel) (i : ℕ) (s : Span) (r : Bool) (e : s ≡ extentNo k i) (f : r ≡ allFrom (openAt b) (s .start .0) (s .end .0 - s .start .0)) where
+module _ (b : Board) (k : Kernel) (i : ℕ) (s : Span) (r : Bool) (e : s ≡ extentNo k i) (f : r ≡ allFrom (isOpen b) (s .start .0) (s .end .0 - s .start .0)) where
   known : extentOpen b k i ≡ r
   unfolding extentOpen
   known = rw (f, e)

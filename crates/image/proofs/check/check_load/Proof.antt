@@ -3,7 +3,7 @@
 use Rattle.laws.specs.CheckLaws.{chain}
 use Rattle.image.specs.Judged.{loadChecks}
 use borrow.Author.Needs.{needs}
-use Rattle.image.proofs.Tests.{told}
+use Rattle.image.proofs.TestLaws.{told}
 use Rattle.image.proofs.check.check_load.Statement.{statement}
 use Rattle.image.proofs.check.check_load.Tie as tie
 

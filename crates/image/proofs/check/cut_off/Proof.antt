@@ -3,10 +3,10 @@
 use mathlib.Core.Path.{sym}
 use Prim.Native.Nat.{_+_, _≤_, _<_}
 use native.Mathlib.Omega.{arith}
-use Rattle.header.specs.Header.{searched}
-use Rattle.image.specs.Load.{wholeLength}
+use Rattle.header.specs.Header.{searchLimit}
+use Rattle.image.specs.Load.{fullHeader}
 use borrow.Author.Needs.{needs}
-use Rattle.image.proofs.Tests.{tests}
+use Rattle.image.proofs.TestLaws.{tests}
 use Rattle.image.proofs.check.cut_off.Statement.{statement}
 use Rattle.image.proofs.check.cut_off.Tie as tie
 
@@ -15,7 +15,7 @@ sub-if1 c = search needs
 
 returns : tie.Need-returns
 returns c =
-    let h : searched < c .before .before .args .at .0 + wholeLength = omega arith in
+    let h : searchLimit < c .before .before .args .at .0 + fullHeader = omega arith in
     sym (search tests depth 8)
 
 add-result : tie.Need-add-result
@@ -23,7 +23,7 @@ add-result c = search needs
 
 returns-2 : tie.Need-returns-2
 returns-2 c =
-    let h : c .before .before .before .args .at .0 + wholeLength ≤ searched = omega arith in
+    let h : c .before .before .before .args .at .0 + fullHeader ≤ searchLimit = omega arith in
     search tests depth 8
 
 pub cut-off-spec : {M : Type 1} → statement M

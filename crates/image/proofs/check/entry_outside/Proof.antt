@@ -1,7 +1,7 @@
 -- `image::check::entry_outside` meets its contract: its two tests are those of `entryOutside`.
 -- Assumes nothing.
 use mathlib.Core.Path.{sym}
-use Rattle.image.proofs.Tests.{tests}
+use Rattle.image.proofs.TestLaws.{tests}
 use Rattle.image.proofs.check.entry_outside.Statement.{statement}
 use Rattle.image.proofs.check.entry_outside.Tie as tie
 

@@ -3,7 +3,7 @@
 use mathlib.Core.Path.{_∙_}
 use Rattle.image.specs.Load.{loadLength}
 use borrow.Author.Needs.{needs}
-use Rattle.image.proofs.Tests.{tests}
+use Rattle.image.proofs.TestLaws.{tests}
 use Rattle.image.proofs.load.load_length.Statement.{statement}
 use Rattle.image.proofs.load.load_length.Tie as tie
 

@@ -2,7 +2,7 @@
 -- Assumes nothing.
 use mathlib.Core.Path.{_≡_, ap, _∙_}
 use lib.ListN.{length}
-use Rattle.memory.specs.WritesLaws.{length-written}
+use Rattle.buffer.specs.WritesLaws.{length-written}
 use Rattle.decision.specs.Lent.{Lent, layoutIn}
 use Rattle.loader.specs.LoadLaws.{Loads, loads}
 use Rattle.loader.specs.WriteLaws.{layout-read, few-segments, few-modules, block-ready, all-written}
@@ -40,8 +40,8 @@ write-modules-requires c κs =
     let d = c .before .before .before .before .before .before .before .before .before .before in
     few-modules (x d) (load d) _ _ (start d .pre .plan) (layout-is d)
 
-write-information-requires : tie.Need-write-information-requires
-write-information-requires c κs =
+write-block-requires : tie.Need-write-block-requires
+write-block-requires c κs =
     let after-write-modules = c .before .before .before .before in
     let after-write-kernel = after-write-modules .before .before .before .before in
     let d = after-write-kernel .before .before .before .before .before .before .before in
@@ -57,7 +57,7 @@ returns c =
     let after-write-kernel = after-write-modules .before .before .before .before in
     let after-bytes-of = after-write-kernel .before .before in
     let d = after-bytes-of .before .before .before .before .before in
-    all-written (x d) (load d) _ _ (start d .pre .plan) (layout-is d) _ _ _ _ _ (after-bytes-of .bytes-of .ensures) (after-write-kernel .write-kernel .ensures) (after-write-modules .write-modules .ensures) (c .before .before .write-information .ensures)
+    all-written (x d) (load d) _ _ (start d .pre .plan) (layout-is d) _ _ _ _ _ (after-bytes-of .bytes-of .ensures) (after-write-kernel .write-kernel .ensures) (after-write-modules .write-modules .ensures) (c .before .before .write-block .ensures)
 
 pub write-load-spec : {M : Type 1} → statement M
 write-load-spec =
@@ -67,6 +67,6 @@ write-load-spec =
     bytes-of-requires
     write-kernel-requires
     write-modules-requires
-    write-information-requires
+    write-block-requires
     same-length
     returns)

@@ -6,13 +6,13 @@ use native.Mathlib.Omega.{arith}
 use borrow.Author.Needs.{needs}
 use Rattle.edge.specs.Edge.{spanEdge, edgeUpTo}
 use Rattle.edge.specs.EdgeLaws.{edge-none, edge-more}
-use Rattle.placement.specs.Free.{spanAt}
+use Rattle.address.specs.Address.{spanNo}
 use Rattle.placement.specs.FreeEdge.{takenEdge}
 use Rattle.placement.proofs.free.taken_edge.Statement.{statement}
 use Rattle.placement.proofs.free.taken_edge.Tie as tie
 
 abbrev Inv-loop : tie.InvT-loop
-Inv-loop x taken f₀ i₀ f i = (i ≤ taken .count) × (f .0 ≡ edgeUpTo (λ j. spanAt taken j .start .0) (λ j. spanAt taken j .end .0) (x .0) (f₀ .0) i)
+Inv-loop x taken f₀ i₀ f i = (i ≤ taken .count) × (f .0 ≡ edgeUpTo (λ j. spanNo (taken .list) j .start .0) (λ j. spanNo (taken .list) j .end .0) (x .0) (f₀ .0) i)
 
 abbrev μ-loop : tie.MeasureT-loop
 μ-loop x taken f₀ i₀ f i = taken .count - i

@@ -4,7 +4,7 @@ use mathlib.Core.Path.{sym, _∙_}
 use Prim.Native.Nat.{_-_}
 use native.Mathlib.Omega.{arith}
 use borrow.Author.Needs.{needs}
-use Rattle.placement.specs.Steps.{Walked, round-small, round-floor, step-start, step-on, step-past, step-found, step-end}
+use Rattle.placement.specs.StepLaws.{Walked, round-small, round-floor, step-start, step-on, step-past, step-found, step-end}
 use Rattle.placement.proofs.lowest.lowest_place.Statement.{statement}
 use Rattle.placement.proofs.lowest.lowest_place.Tie as tie
 
@@ -35,14 +35,14 @@ returns c =
 free-edge-requires : tie.Need-free-edge-requires Inv-loop μ-loop
 free-edge-requires c κs = search needs
 
-free-at-requires : tie.Need-free-at-requires Inv-loop μ-loop
-free-at-requires c κs = search needs
+is-free-requires : tie.Need-is-free-requires Inv-loop μ-loop
+is-free-requires c κs = search needs
 
 loop-less : tie.Need-loop-less Inv-loop μ-loop
 loop-less c =
     let at-loop = c .before .before .before .before .before .before .before .before .before .before in
     let start = at-loop .before .before in
-    let f = sym (c .before .free-at .ensures) ∙ c .if3 .taken in
+    let f = sym (c .before .is-free .ensures) ∙ c .if3 .taken in
     let g = step-on _ _ _ (search needs) (start .pre .item) _ _ _ (at-loop .loop .inv) (omega arith) (c .before .before .free-edge .ensures) f in
     omega arith
 
@@ -50,7 +50,7 @@ loop-again : tie.Need-loop-again Inv-loop μ-loop
 loop-again c =
     let at-loop = c .before .before .before .before .before .before .before .before .before .before in
     let start = at-loop .before .before in
-    let f = sym (c .before .free-at .ensures) ∙ c .if3 .taken in
+    let f = sym (c .before .is-free .ensures) ∙ c .if3 .taken in
     step-on _ _ _ (search needs) (start .pre .item) _ _ _ (at-loop .loop .inv) (omega arith) (c .before .before .free-edge .ensures) f .1
 
 round-up-requires : tie.Need-round-up-requires Inv-loop μ-loop
@@ -66,7 +66,7 @@ loop-less-2 c =
     let after-free-edge = c .before .before .before in
     let at-loop = after-free-edge .before .before .before .before .before .before .before .before in
     let start = at-loop .before .before in
-    let f = sym (c .before .before .free-at .ensures) ∙ c .before .if3 .left in
+    let f = sym (c .before .before .is-free .ensures) ∙ c .before .if3 .left in
     let g = step-past _ _ _ (search needs) (start .pre .item) _ _ _ (at-loop .loop .inv) (omega arith) (after-free-edge .free-edge .ensures) _ (omega arith) f (c .round-up .ensures) in
     omega arith
 
@@ -75,7 +75,7 @@ loop-again-2 c =
     let after-free-edge = c .before .before .before in
     let at-loop = after-free-edge .before .before .before .before .before .before .before .before in
     let start = at-loop .before .before in
-    let f = sym (c .before .before .free-at .ensures) ∙ c .before .if3 .left in
+    let f = sym (c .before .before .is-free .ensures) ∙ c .before .if3 .left in
     step-past _ _ _ (search needs) (start .pre .item) _ _ _ (at-loop .loop .inv) (omega arith) (after-free-edge .free-edge .ensures) _ (omega arith) f (c .round-up .ensures) .1
 
 returns-2 : tie.Need-returns-2 Inv-loop μ-loop
@@ -92,7 +92,7 @@ lowest-place-spec =
     sub-if1
     returns
     free-edge-requires
-    free-at-requires
+    is-free-requires
     loop-less
     loop-again
     round-up-requires

@@ -6,7 +6,7 @@ use native.Mathlib.Nat.{sub-zero}
 use native.Mathlib.Omega.{arith}
 use borrow.Author.Needs.{needs}
 use Rattle.address.specs.declared.Span.{Span}
-use Rattle.board.specs.Open.{openAt}
+use Rattle.board.specs.Open.{isOpen}
 use Rattle.board.specs.OpenLaws.{open-below}
 use Rattle.placement.specs.declared.Spans.{Spans}
 use Rattle.placement.specs.LowestLaws.{place-end}
@@ -19,7 +19,7 @@ grown : (t r : Spans) (s : Span) → r ≡ withSpan t s → r .count ≡ t .coun
 grown t r s e = ap (λ (u : Spans). u .count) e ∙ with-count t s
 
 abbrev Inv-loop : tie.InvT-loop
-Inv-loop board items t₀ i₀ t i = (i ≤ items .count) × (t .count ≡ t₀ .count + i) × (placeItems (openAt board) t₀ items ≡ placedFrom (openAt board) items (items .count - i) i t)
+Inv-loop board items t₀ i₀ t i = (i ≤ items .count) × (t .count ≡ t₀ .count + i) × (placeItems (isOpen board) t₀ items ≡ placedFrom (isOpen board) items (items .count - i) i t)
 
 abbrev μ-loop : tie.MeasureT-loop
 μ-loop board items t₀ i₀ t i = items .count - i

@@ -6,7 +6,7 @@ use native.Mathlib.Numerals.{add-one}
 use native.Mathlib.Omega.{arith}
 use lib.ListN.{drop}
 use Rattle.report.specs.Text.{leadingZeros, decimalLength}
-use Rattle.report.proofs.Turns.{lead-more, lead-stop, lead-last}
+use Rattle.report.proofs.TurnLaws.{lead-more, lead-stop, lead-last}
 use borrow.Author.Needs.{needs}
 use Rattle.report.proofs.digits.leading.Statement.{statement}
 use Rattle.report.proofs.digits.leading.Tie as tie

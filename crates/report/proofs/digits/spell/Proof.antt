@@ -7,7 +7,7 @@ use native.Mathlib.Nat.{mod-lt}
 use native.Mathlib.Omega.{arith}
 use lib.ListN.{length, take, drop, length-set}
 use Rattle.report.specs.Text.{digitsOf, decimalLength}
-use Rattle.report.proofs.Turns.{spelled-none, spelled-more, spelled-all}
+use Rattle.report.proofs.TurnLaws.{spelled-none, spelled-more, spelled-all}
 use borrow.Author.Needs.{needs}
 use Rattle.report.proofs.digits.spell.Statement.{statement}
 use Rattle.report.proofs.digits.spell.Tie as tie

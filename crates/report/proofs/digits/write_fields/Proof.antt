@@ -5,8 +5,8 @@ use mathlib.Core.List.{List, [], _∷_}
 use Prim.Native.Nat.{ℕ, _*_, _-_, _≤_}
 use native.Mathlib.Omega.{arith}
 use lib.ListN.{length, getD}
-use Rattle.viertompu.specs.Rows.{rows}
-use Rattle.viertompu.specs.RowLaws.{length-rows}
+use Rattle.viertompu.specs.Joined.{joined}
+use Rattle.viertompu.specs.JoinedLaws.{length-joined}
 use Rattle.report.specs.Text.{Wrote, newline, fieldText, fieldsText}
 use Rattle.report.specs.TextLaws.{length-field, wrote-nothing, wrote-behind, wrote-row}
 use borrow.Author.Needs.{needs}
@@ -14,10 +14,10 @@ use Rattle.report.proofs.digits.write_fields.Statement.{statement}
 use Rattle.report.proofs.digits.write_fields.Tie as tie
 
 abbrev fieldRows : List ℕ → ℕ → List ℕ
-fieldRows fields i = rows (λ j. fieldText (getD fields j 0)) i
+fieldRows fields i = joined (λ j. fieldText (getD fields j 0)) i
 
 length-fieldRows : (fields : List ℕ) (i : ℕ) → length (fieldRows fields i) ≡ 9 * i
-length-fieldRows fields i = length-rows (λ j. fieldText (getD fields j 0)) 9 (λ j. length-field (getD fields j 0)) i
+length-fieldRows fields i = length-joined (λ j. fieldText (getD fields j 0)) 9 (λ j. length-field (getD fields j 0)) i
 
 abbrev Inv-loop : tie.InvT-loop
 Inv-loop text₀ at fields next₀ i₀ t6 text next i = (i ≤ length fields) × Wrote text₀ at (fieldRows fields i) text next × (length text ≡ length text₀)
@@ -26,7 +26,7 @@ abbrev μ-loop : tie.MeasureT-loop
 μ-loop text₀ at fields next₀ i₀ t6 text next i = length fields - i
 
 loop-holds : tie.Need-loop-holds Inv-loop μ-loop
-unfolding rows
+unfolding joined
 loop-holds c = (search needs, wrote-nothing _ _, search needs)
 
 mul-write-field : tie.Need-mul-write-field Inv-loop μ-loop

@@ -4,8 +4,8 @@ use borrow.Author.Needs.{needs}
 use Rattle.submission.proofs.read.read_entry.Statement.{statement}
 use Rattle.submission.proofs.read.read_entry.Tie as tie
 
-entry-at-requires : tie.Need-entry-at-requires
-entry-at-requires c κs = search needs
+entry-offset-requires : tie.Need-entry-offset-requires
+entry-offset-requires c κs = search needs
 
 read-u32-requires : tie.Need-read-u32-requires
 read-u32-requires c κs = search needs
@@ -29,7 +29,7 @@ pub read-entry-spec : {M : Type 1} → statement M
 read-entry-spec =
     tie.close
     (tie.spec
-    entry-at-requires
+    entry-offset-requires
     read-u32-requires
     add-read-u16
     read-u16-requires

@@ -7,15 +7,15 @@ use Prim.Native.Nat.{ℕ, _+_, _*_, _-_, _^_, _≤_}
 use native.Mathlib.Omega.{arith}
 use borrow.Author.Needs.{needs}
 use Rattle.laws.specs.Table.{listed}
-use Rattle.submission.specs.Format.{moduleCount, imageLength, lineLength, entryAt, dataStart, moduleTable, layoutOf, noLayout}
+use Rattle.submission.specs.Format.{moduleCount, imageLength, lineLength, entryOffset, dataStart, moduleTable, layoutOf, noLayout}
 use Rattle.submission.specs.declared.Module.{Module}
 use Rattle.submission.specs.declared.Layout.{Layout}
-use Rattle.submission.proofs.Turns.{modules-more, next-data}
+use Rattle.submission.proofs.TurnLaws.{modules-more, next-data}
 use Rattle.submission.proofs.read.read_layout.Statement.{statement}
 use Rattle.submission.proofs.read.read_layout.Tie as tie
 
 -- what was read is the layout
-laid : (s : List ℕ) (n start image line i : ℕ) (ms : List Module) → n ≡ moduleCount s → start ≡ entryAt n → image ≡ imageLength s → line ≡ lineLength s → i ≡ moduleCount s → ms ≡ moduleTable s i
+laid : (s : List ℕ) (n start image line i : ℕ) (ms : List Module) → n ≡ moduleCount s → start ≡ entryOffset n → image ≡ imageLength s → line ≡ lineLength s → i ≡ moduleCount s → ms ≡ moduleTable s i
     → record { image = record { at = start; len = image }; line = record { at = start + image; len = line }; modules = ms; count = n } ≡ layoutOf s
 unfolding layoutOf
 laid s n start image line i ms c b h l e m = rw (m, e, b, c, h, l) refl
@@ -27,8 +27,8 @@ Inv-loop s count image line modules₀ at₀ i₀ modules at i =
 abbrev μ-loop : tie.MeasureT-loop
 μ-loop s count image line modules₀ at₀ i₀ modules at i = count - i
 
-entry-at-requires : tie.Need-entry-at-requires Inv-loop μ-loop
-entry-at-requires c κs = search needs
+entry-offset-requires : tie.Need-entry-offset-requires Inv-loop μ-loop
+entry-offset-requires c κs = search needs
 
 read-u32-requires : tie.Need-read-u32-requires Inv-loop μ-loop
 read-u32-requires c κs = search needs
@@ -100,7 +100,7 @@ returns c =
     let s = at-start .args .s .now in
     let turn = at-loop .loop in
     let e : turn .i ≡ moduleCount s = omega (arith, at-start .pre .0) in
-    (laid s (at-start .args .count) (at-u32 .before .entry-at .result) (at-u32 .read-u32 .result) (at-u16 .read-u16 .result) (turn .i) (turn .modules) (at-start .pre .0) (at-u32 .before .entry-at .ensures) (at-u32 .read-u32 .ensures) (at-u16 .read-u16 .ensures) e (turn .inv .1), turn .inv .2 ∙ ap (dataStart s) e)
+    (laid s (at-start .args .count) (at-u32 .before .entry-offset .result) (at-u32 .read-u32 .result) (at-u16 .read-u16 .result) (turn .i) (turn .modules) (at-start .pre .0) (at-u32 .before .entry-offset .ensures) (at-u32 .read-u32 .ensures) (at-u16 .read-u16 .ensures) e (turn .inv .1), turn .inv .2 ∙ ap (dataStart s) e)
 
 pub read-layout-spec : {M : Type 1} → statement M
 read-layout-spec =
@@ -108,7 +108,7 @@ read-layout-spec =
     (tie.spec
     Inv-loop
     μ-loop
-    entry-at-requires
+    entry-offset-requires
     read-u32-requires
     cast-t12
     add-t10

@@ -9,7 +9,7 @@ use borrow.Author.Needs.{needs}
 use Rattle.laws.specs.Tests.{allFrom}
 use Rattle.laws.specs.TestLaws.{all-not, all-zero}
 use Rattle.submission.specs.Rules.{entryHolds}
-use Rattle.submission.proofs.Turns.{hold-more}
+use Rattle.submission.proofs.TurnLaws.{hold-more}
 use Rattle.submission.proofs.rules.entries_hold.Statement.{statement}
 use Rattle.submission.proofs.rules.entries_hold.Tie as tie
 

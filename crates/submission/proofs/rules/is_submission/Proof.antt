@@ -11,23 +11,23 @@ use lib.Seq.{length-take-le}
 use borrow.Author.Tests.{le-leb, lt-leb, not-true, not-false}
 use borrow.Author.Needs.{needs}
 use Rattle.submission.specs.Scan.{sameBytes}
-use Rattle.submission.specs.Format.{mark, version, headerSize}
+use Rattle.submission.specs.Format.{mark, version, prefixSize}
 use Rattle.submission.specs.Rules.{isSubmission}
 use Rattle.submission.proofs.rules.is_submission.Statement.{statement}
 use Rattle.submission.proofs.rules.is_submission.Tie as tie
 
 module _ (s : List ℕ) where
-  too-short : length s < headerSize → false ≡ isSubmission s
+  too-short : length s < prefixSize → false ≡ isSubmission s
   unfolding isSubmission
-  too-short h = rw (lt-leb headerSize (length s) h) refl
+  too-short h = rw (lt-leb prefixSize (length s) h) refl
 
-  other-mark : headerSize ≤ length s → sameBytes (take 3 s) mark ≡ false → false ≡ isSubmission s
+  other-mark : prefixSize ≤ length s → sameBytes (take 3 s) mark ≡ false → false ≡ isSubmission s
   unfolding isSubmission
-  other-mark h m = rw (le-leb headerSize (length s) h, m) refl
+  other-mark h m = rw (le-leb prefixSize (length s) h, m) refl
 
-  else-version : (v : ℕ) → v ≡ version s → headerSize ≤ length s → sameBytes (take 3 s) mark ≡ true → eqb v 1 ≡ isSubmission s
+  else-version : (v : ℕ) → v ≡ version s → prefixSize ≤ length s → sameBytes (take 3 s) mark ≡ true → eqb v 1 ≡ isSubmission s
   unfolding isSubmission
-  else-version v e h m = rw (e, le-leb headerSize (length s) h, m) refl
+  else-version v e h m = rw (e, le-leb prefixSize (length s) h, m) refl
 
 returns : tie.Need-returns
 returns c = too-short (c .before .before .args .s .now) (c .if1 .taken)

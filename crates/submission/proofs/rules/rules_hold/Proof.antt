@@ -9,11 +9,11 @@ use borrow.Author.Tests.{not-true, not-false}
 use borrow.Author.Needs.{needs}
 use Rattle.laws.specs.Tests.{allFrom}
 use Rattle.submission.specs.Scan.{hasZero}
-use Rattle.submission.specs.Format.{moduleCount, lineLength, lineOf, layoutOf, bytesOf}
+use Rattle.submission.specs.Format.{moduleCount, lineLength, linePart, layoutOf, bytesOf}
 use Rattle.submission.specs.Rules.{entryHolds}
 use Rattle.submission.specs.declared.Part.{Part}
 use Rattle.submission.specs.declared.Layout.{Layout}
-use Rattle.submission.proofs.Judged.{count-is, line-is, long-line, bad-entry, other-end, zero-in-line, else-strings}
+use Rattle.submission.proofs.ParseLaws.{count-is, line-is, long-line, bad-entry, other-end, zero-in-line, else-strings}
 use Rattle.submission.proofs.rules.rules_hold.Statement.{statement}
 use Rattle.submission.proofs.rules.rules_hold.Tie as tie
 
@@ -24,7 +24,7 @@ module _ (s : List ℕ) (l : Layout) (q : l ≡ layoutOf s) where
   entries-are : (b : Bool) → b ≡ allFrom (entryHolds s) 0 (l .count) → allFrom (entryHolds s) 0 (moduleCount s) ≡ b
   entries-are b e = ap (allFrom (entryHolds s) 0) (sym (count-is s l q)) ∙ sym e
 
-  zero-is : (text : List ℕ) (b : Bool) → text ≡ bytesOf s (l .line) → b ≡ hasZero text → hasZero (bytesOf s (lineOf s)) ≡ b
+  zero-is : (text : List ℕ) (b : Bool) → text ≡ bytesOf s (l .line) → b ≡ hasZero text → hasZero (bytesOf s (linePart s)) ≡ b
   zero-is text b e f = ap (λ (p : Part). hasZero (bytesOf s p)) (sym (line-is s l q)) ∙ ap hasZero (sym e) ∙ sym f
 
 returns : tie.Need-returns

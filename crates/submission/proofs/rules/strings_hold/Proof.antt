@@ -10,13 +10,13 @@ use borrow.Author.Needs.{needs}
 use Rattle.laws.specs.Tests.{allFrom}
 use Rattle.laws.specs.TestLaws.{all-not, all-zero}
 use Rattle.submission.specs.Scan.{hasZero}
-use Rattle.submission.specs.Format.{moduleCount, moduleOf, moduleLimit, noModule, layoutOf, bytesOf}
+use Rattle.submission.specs.Format.{moduleCount, moduleOf, maxModules, noModule, layoutOf, bytesOf}
 use Rattle.submission.specs.FormatLaws.{module-at}
 use Rattle.submission.specs.Rules.{stringHolds}
 use Rattle.submission.specs.declared.Module.{Module}
 use Rattle.submission.specs.declared.Layout.{Layout}
-use Rattle.submission.proofs.Judged.{count-is}
-use Rattle.submission.proofs.Turns.{hold-more}
+use Rattle.submission.proofs.ParseLaws.{count-is}
+use Rattle.submission.proofs.TurnLaws.{hold-more}
 use Rattle.submission.proofs.rules.strings_hold.Statement.{statement}
 use Rattle.submission.proofs.rules.strings_hold.Tie as tie
 
@@ -29,7 +29,7 @@ module _ (s : List ℕ) (l : Layout) (q : l ≡ layoutOf s) where
       ap (λ (m : Module). not (hasZero (bytesOf s (m .string)))) (sym k) ∙ ap (λ (t : List ℕ). not (hasZero t)) (sym e) ∙ ap not (sym f)
 
 abbrev Inv-loop : tie.InvT-loop
-Inv-loop s l count i₀ i = (i ≤ count) × (count ≤ moduleLimit) × (count ≡ moduleCount s) × (allFrom (stringHolds s) 0 i ≡ true)
+Inv-loop s l count i₀ i = (i ≤ count) × (count ≤ maxModules) × (count ≡ moduleCount s) × (allFrom (stringHolds s) 0 i ≡ true)
 
 abbrev μ-loop : tie.MeasureT-loop
 μ-loop s l count i₀ i = count - i

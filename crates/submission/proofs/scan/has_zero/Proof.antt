@@ -6,7 +6,7 @@ use native.Mathlib.Omega.{arith}
 use lib.ListN.{length, drop}
 use borrow.Author.Needs.{needs}
 use Rattle.submission.specs.Scan.{hasZero}
-use Rattle.submission.proofs.Scans.{zero-here, zero-on, zero-none}
+use Rattle.submission.proofs.ScanLaws.{zero-here, zero-on, zero-none}
 use Rattle.submission.proofs.scan.has_zero.Statement.{statement}
 use Rattle.submission.proofs.scan.has_zero.Tie as tie
 

@@ -6,7 +6,7 @@ use native.Mathlib.Omega.{arith}
 use lib.ListN.{length, drop}
 use borrow.Author.Needs.{needs}
 use Rattle.submission.specs.Scan.{sameBytes}
-use Rattle.submission.proofs.Scans.{differ-here, same-on, same-none, other-length}
+use Rattle.submission.proofs.ScanLaws.{differ-here, same-on, same-none, other-length}
 use Rattle.submission.proofs.scan.same_bytes.Statement.{statement}
 use Rattle.submission.proofs.scan.same_bytes.Tie as tie
 

@@ -7,17 +7,17 @@ use native.Mathlib.Omega.{arith}
 use borrow.Author.Needs.{needs}
 use Rattle.laws.specs.Tests.{run}
 use Rattle.memory_map.specs.declared.MemMap.{MemMap}
-use Rattle.usable.specs.Usable.{limit, usableAt}
-use Rattle.usable.specs.Sizes.{kib, lowerMost, memLower}
+use Rattle.usable.specs.Usable.{addressSpace, isUsable}
+use Rattle.usable.specs.Sizes.{kib, maxMemLower, memLower}
 use Rattle.usable.proofs.sizes.mem_lower.Statement.{statement}
 use Rattle.usable.proofs.sizes.mem_lower.Tie as tie
 
-module _ (m : MemMap) (n : ℕ) (e : n ≡ run (usableAt m) 0 limit) where
-  less : n / kib < lowerMost → n / kib ≡ memLower m
+module _ (m : MemMap) (n : ℕ) (e : n ≡ run (isUsable m) 0 addressSpace) where
+  less : n / kib < maxMemLower → n / kib ≡ memLower m
   unfolding memLower
   less l = rw (← e) (sym (min-eq-left (omega arith)))
 
-  most : lowerMost ≤ n / kib → lowerMost ≡ memLower m
+  most : maxMemLower ≤ n / kib → maxMemLower ≡ memLower m
   unfolding memLower
   most l = rw (← e) (sym (min-eq-right l))
 

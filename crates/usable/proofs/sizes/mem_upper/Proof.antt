@@ -9,7 +9,7 @@ use borrow.Author.Needs.{needs}
 use Rattle.laws.specs.Tests.{run}
 use Rattle.laws.specs.TestLaws.{true-or-false}
 use Rattle.address.specs.Address.{floor}
-use Rattle.usable.specs.Usable.{limit, usableAt}
+use Rattle.usable.specs.Usable.{addressSpace, isUsable}
 use Rattle.usable.specs.Sizes.{kib, memUpper}
 use Rattle.usable.proofs.sizes.mem_upper.Statement.{statement}
 use Rattle.usable.proofs.sizes.mem_upper.Tie as tie
@@ -24,7 +24,7 @@ usable-run-requires : tie.Need-usable-run-requires
 usable-run-requires c κs = search needs
 
 cast-result : tie.Need-cast-result
-cast-result c = omega (arith, run-most (usableAt (c .before .args .map)) (limit - floor) floor)
+cast-result c = omega (arith, run-most (isUsable (c .before .args .map)) (addressSpace - floor) floor)
 
 returns : tie.Need-returns
 unfolding memUpper

@@ -8,37 +8,37 @@ use borrow.Author.Tests.{not-true, not-false}
 use borrow.Author.Needs.{needs}
 use Rattle.laws.specs.Tests.{run}
 use Rattle.laws.specs.TestLaws.{run-is}
-use Rattle.edge.specs.Passed.{Passed, passed-start, passed-on}
+use Rattle.edge.specs.PassLaws.{AllPass, pass-start, pass-on}
 use Rattle.memory_map.specs.declared.MemMap.{MemMap}
 use Rattle.usable.specs.MapEdge.{mapEdge}
-use Rattle.usable.specs.Usable.{limit, usableAt}
+use Rattle.usable.specs.Usable.{addressSpace, isUsable}
 use Rattle.usable.specs.MapEdgeLaws.{map-edge-at}
 use Rattle.usable.proofs.sizes.usable_run.Statement.{statement}
 use Rattle.usable.proofs.sizes.usable_run.Tie as tie
 
 -- a run that has come to x, where it ends
-ended : (f : ℕ → Bool) (a x k : ℕ) → Passed f a x → x - a ≤ k - a → (x < k → f x ≡ false) → x - a ≡ run f a (k - a)
+ended : (f : ℕ → Bool) (a x k : ℕ) → AllPass f a x → x - a ≤ k - a → (x < k → f x ≡ false) → x - a ≡ run f a (k - a)
 ended f a x k h l q =
     sym
     (run-is f (k - a) a (x - a) l (λ y u v. h .all y u (omega (arith, h .from))) (λ u. let e : a + (x - a) ≡ x = omega (arith, h .from) in rw e (q (omega arith))))
 
 -- x is usable, and so is what lies before the edge
-further : (m : MemMap) (a x r : ℕ) → x < limit → Passed (usableAt m) a x → usableAt m x ≡ true → r ≡ mapEdge m x limit → (x < r) × (r ≤ limit) × Passed (usableAt m) a r
+further : (m : MemMap) (a x r : ℕ) → x < addressSpace → AllPass (isUsable m) a x → isUsable m x ≡ true → r ≡ mapEdge m x addressSpace → (x < r) × (r ≤ addressSpace) × AllPass (isUsable m) a r
 further m a x r l h f q =
-    let g = map-edge-at m x limit l r q (omega arith) in
-    (g .past, g .near, passed-on _ _ _ h g f)
+    let g = map-edge-at m x addressSpace l r q (omega arith) in
+    (g .past, g .near, pass-on _ _ _ h g f)
 
 abbrev Inv-loop : tie.InvT-loop
-Inv-loop map start x₀ x = Passed (usableAt map) (start .0) (x .0) × (x .0 - start .0 ≤ limit - start .0)
+Inv-loop map start x₀ x = AllPass (isUsable map) (start .0) (x .0) × (x .0 - start .0 ≤ addressSpace - start .0)
 
 abbrev μ-loop : tie.MeasureT-loop
-μ-loop map start x₀ x = limit - x .0
+μ-loop map start x₀ x = addressSpace - x .0
 
 loop-holds : tie.Need-loop-holds Inv-loop μ-loop
-loop-holds c = (passed-start _ _, search needs)
+loop-holds c = (pass-start _ _, search needs)
 
-usable-at-requires : tie.Need-usable-at-requires Inv-loop μ-loop
-usable-at-requires c κs = search needs
+is-usable-requires : tie.Need-is-usable-requires Inv-loop μ-loop
+is-usable-requires c κs = search needs
 
 sub-result : tie.Need-sub-result Inv-loop μ-loop
 sub-result c = search needs
@@ -46,7 +46,7 @@ sub-result c = search needs
 returns : tie.Need-returns Inv-loop μ-loop
 returns c =
     let v = c .before .before .before .before .before .before .loop .inv in
-    ended _ _ _ _ (v .0) (v .1) (λ u. sym (c .before .before .before .usable-at .ensures) ∙ not-true _ (c .before .before .if2 .taken))
+    ended _ _ _ _ (v .0) (v .1) (λ u. sym (c .before .before .before .is-usable .ensures) ∙ not-true _ (c .before .before .if2 .taken))
 
 map-edge-requires : tie.Need-map-edge-requires Inv-loop μ-loop
 map-edge-requires c κs = search needs
@@ -54,14 +54,14 @@ map-edge-requires c κs = search needs
 loop-less : tie.Need-loop-less Inv-loop μ-loop
 loop-less c =
     let v = c .before .before .before .before .before .loop .inv in
-    let f = sym (c .before .before .usable-at .ensures) ∙ not-false _ (c .before .if2 .left) in
+    let f = sym (c .before .before .is-usable .ensures) ∙ not-false _ (c .before .if2 .left) in
     let g = further _ _ _ _ (omega arith) (v .0) f (c .map-edge .ensures) in
     omega arith
 
 loop-again : tie.Need-loop-again Inv-loop μ-loop
 loop-again c =
     let v = c .before .before .before .before .before .loop .inv in
-    let f = sym (c .before .before .usable-at .ensures) ∙ not-false _ (c .before .if2 .left) in
+    let f = sym (c .before .before .is-usable .ensures) ∙ not-false _ (c .before .if2 .left) in
     let g = further _ _ _ _ (omega arith) (v .0) f (c .map-edge .ensures) in
     (g .2, omega arith)
 
@@ -80,7 +80,7 @@ usable-run-spec =
     Inv-loop
     μ-loop
     loop-holds
-    usable-at-requires
+    is-usable-requires
     sub-result
     returns
     map-edge-requires
