@@ -65,13 +65,13 @@ pub struct NaiveView {
 impl NaiveView {
     /// Nothing where one of the checks 1 to 14 refuses.
     pub fn of(case: &Case) -> Option<Self> {
-        let request = second::examine(case).ok()?;
-        let extent = request.kernel.extent();
+        let examined = second::examine(case).ok()?;
+        let extent = examined.kernel.extent();
         Some(NaiveView {
             board: Board::of(case),
             kernel: extent.start..extent.end,
-            modules: request.module_items(),
-            block: request.block_item(),
+            modules: examined.module_items(),
+            block: examined.block_item(),
         })
     }
 

@@ -11,7 +11,7 @@ use crate::limits::{
 use crate::naive::Board;
 use crate::pair::{map_bytes, pairs, Pair};
 use crate::plan::{reachable_numbers, Extent, Plan, Refusal};
-use crate::second::{self, Request};
+use crate::second::{self, Examined};
 use std::collections::BTreeMap;
 use std::fmt;
 use std::ops::Range;
@@ -42,18 +42,18 @@ impl Coverage {
         match second::examine(case) {
             Err(Refusal::BadOperatorLine) => self.count(line_edges(&case.operator)),
             Err(_) => {}
-            Ok(request) => self.record_board(case, &request, outcome),
+            Ok(examined) => self.record_board(case, &examined, outcome),
         }
     }
 
     /// Records a case that passes checks 1 to 14.
-    fn record_board(&mut self, case: &Case, request: &Request, outcome: &Outcome) {
+    fn record_board(&mut self, case: &Case, examined: &Examined, outcome: &Outcome) {
         let pairs = pairs(&case.map);
-        self.count(OnBoard { case, request, pairs: &pairs, outcome }.edges());
+        self.count(OnBoard { case, examined, pairs: &pairs, outcome }.edges());
         if let Some(plan) = &Plan::of_words(&outcome.words) {
             let board = Board::of(case);
-            self.count(Load { case, request, pairs: &pairs, board, plan, outcome }.edges());
-            *self.loads.entry(request.submission.modules.len()).or_default() += 1;
+            self.count(Load { case, examined, pairs: &pairs, board, plan, outcome }.edges());
+            *self.loads.entry(examined.submission.modules.len()).or_default() += 1;
         }
     }
 
@@ -118,7 +118,7 @@ fn line_edges(line: &[u8]) -> Vec<Edge> {
 /// A case whose kernel meets the board: one that passes checks 1 to 14.
 struct OnBoard<'a> {
     case: &'a Case,
-    request: &'a Request<'a>,
+    examined: &'a Examined<'a>,
     pairs: &'a [Pair],
     outcome: &'a Outcome,
 }
@@ -126,8 +126,8 @@ struct OnBoard<'a> {
 impl OnBoard<'_> {
     fn edges(&self) -> Vec<Edge> {
         let Range { start: first, end } = self.case.addresses();
-        let load_end = self.request.kernel.load.end;
-        let kernel = self.request.kernel.extent();
+        let load_end = self.examined.kernel.load.end;
+        let kernel = self.examined.kernel.extent();
         let inside = first <= kernel.start && kernel.end <= end;
         let number = self.outcome.words[0];
         vec![
@@ -207,7 +207,7 @@ fn overlap(a: &Pair, b: &Pair) -> bool {
 /// A load.
 struct Load<'a> {
     case: &'a Case,
-    request: &'a Request<'a>,
+    examined: &'a Examined<'a>,
     pairs: &'a [Pair],
     board: Board,
     plan: &'a Plan,
@@ -216,14 +216,14 @@ struct Load<'a> {
 
 impl Load<'_> {
     fn edges(&self) -> Vec<Edge> {
-        let (kernel, operator) = (&self.request.kernel, &self.case.operator);
+        let (kernel, operator) = (&self.examined.kernel, &self.case.operator);
         let first = self.case.addresses().start;
-        let own_line = !self.request.submission.command_line.is_empty();
+        let own_line = !self.examined.submission.command_line.is_empty();
         let load_end_addr = self.header_word(header::LOAD_END_ADDR);
         let bss_end_addr = self.header_word(header::BSS_END_ADDR);
         let whole = |item: &Extent| self.begins_region(item) && self.ends_region(item);
         vec![
-            ("loaded without a command line", self.request.command_line.is_empty()),
+            ("loaded without a command line", self.examined.command_line.is_empty()),
             ("loaded with the submission's line", operator.is_empty() && own_line),
             ("loaded with the operator's line instead", !operator.is_empty() && own_line),
             ("loaded with an operator's line of 1 byte", operator.len() == 1),
@@ -250,12 +250,12 @@ impl Load<'_> {
     }
 
     fn longest_string(&self) -> bool {
-        self.request.submission.modules.iter().any(|m| m.string.len() == MAX_STRING)
+        self.examined.submission.modules.iter().any(|m| m.string.len() == MAX_STRING)
     }
 
     fn header_word(&self, offset: usize) -> u64 {
         let header = self.plan.header_offset as usize;
-        u64::from(u32_at(self.request.submission.image, header + offset))
+        u64::from(u32_at(self.examined.submission.image, header + offset))
     }
 
     fn header_sum(&self) -> u64 {
@@ -266,7 +266,7 @@ impl Load<'_> {
     /// Does the magic stand before the header, at any offset?
     fn false_header_first(&self) -> bool {
         let before = 0..self.plan.header_offset as usize;
-        let image = self.request.submission.image;
+        let image = self.examined.submission.image;
         before.into_iter().any(|at| image[at..].starts_with(&HEADER_MAGIC.to_le_bytes()))
     }
 
@@ -276,7 +276,7 @@ impl Load<'_> {
     }
 
     fn items(&self) -> impl Iterator<Item = &Extent> {
-        let modules = &self.plan.modules[..self.request.submission.modules.len()];
+        let modules = &self.plan.modules[..self.examined.submission.modules.len()];
         modules.iter().chain([&self.plan.block])
     }
 

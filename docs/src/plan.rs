@@ -61,21 +61,21 @@ pub enum Refusal {
     /// 3: the operator's line is over 255 bytes or holds a zero byte
     BadOperatorLine,
     /// 4: the window's first address plus its length is above the top
-    WindowTooHigh,
+    WindowPastTop,
     /// 5: the map is empty, over 4,096 bytes, has over 32 pairs, or a pair has a size under 20 or
     /// runs past the map's end
-    BadMap,
+    BadMemoryMap,
     /// 6: the image has no header
     NoHeader,
     /// 7: one of the header's flag bits 2 to 15 is set
-    UnknownDemand,
+    UnknownRequest,
     /// 8: the header's flag bit 16 is clear
     NoAddressFields,
     /// 9: the 32 bytes of header and address fields do not lie inside both the image and its first
     /// 8,192 bytes
     HeaderCutOff,
     /// 10: load_addr is above header_addr, or their difference is above the header's offset
-    LoadOutsideImage,
+    LoadBeforeImage,
     /// 11: load_end_addr is 0, and no byte of the image is left from the load offset on
     NothingToLoad,
     /// 12: load_end_addr is not 0 and below load_addr, or the load ends beyond the image
@@ -107,13 +107,13 @@ impl Refusal {
             Refusal::NotASubmission => 1,
             Refusal::BadSubmission => 2,
             Refusal::BadOperatorLine => 3,
-            Refusal::WindowTooHigh => 4,
-            Refusal::BadMap => 5,
+            Refusal::WindowPastTop => 4,
+            Refusal::BadMemoryMap => 5,
             Refusal::NoHeader => 6,
-            Refusal::UnknownDemand => 7,
+            Refusal::UnknownRequest => 7,
             Refusal::NoAddressFields => 8,
             Refusal::HeaderCutOff => 9,
-            Refusal::LoadOutsideImage => 10,
+            Refusal::LoadBeforeImage => 10,
             Refusal::NothingToLoad => 11,
             Refusal::LoadPastImage => 12,
             Refusal::BssBelowLoadEnd => 13,

@@ -2,20 +2,20 @@
 
 use super::memory::{mem_lower, mem_upper};
 use super::spans::Span;
-use super::{word, Layout, Request};
+use super::{word, Examined, Layout};
 use crate::bytes::put_u32;
 use crate::layout::information;
 use crate::limits::{INFO_CMDLINE, INFO_FLAGS, LOADER_NAME, MODULE_ENTRY, STRUCTURE};
 
 /// The block's length, known before anything is placed.
-pub fn length(request: &Request) -> u64 {
-    let modules = &request.submission.modules;
+pub fn length(examined: &Examined) -> u64 {
+    let modules = &examined.submission.modules;
     let strings: u64 = modules.iter().map(|module| stored(module.string)).sum();
     STRUCTURE
         + MODULE_ENTRY * modules.len() as u64
-        + request.map.bytes.len() as u64
+        + examined.map.bytes.len() as u64
         + stored(LOADER_NAME)
-        + stored(request.command_line)
+        + stored(examined.command_line)
         + strings
 }
 
@@ -29,7 +29,7 @@ fn stored(text: &[u8]) -> u64 {
 
 /// Everything the block tells.
 pub struct BootInfo<'a> {
-    request: &'a Request<'a>,
+    examined: &'a Examined<'a>,
     modules: &'a [Span],
     block: Span,
 }
@@ -55,8 +55,8 @@ impl Texts {
 }
 
 impl<'a> BootInfo<'a> {
-    pub fn new(request: &'a Request<'a>, layout: &'a Layout) -> Self {
-        BootInfo { request, modules: &layout.modules, block: layout.block }
+    pub fn new(examined: &'a Examined<'a>, layout: &'a Layout) -> Self {
+        BootInfo { examined, modules: &layout.modules, block: layout.block }
     }
 
     fn mods_addr(&self) -> u64 {
@@ -69,10 +69,10 @@ impl<'a> BootInfo<'a> {
 
     /// The block's bytes, in the order of their addresses.
     pub fn bytes(&self) -> Vec<u8> {
-        let map = self.request.map.bytes;
+        let map = self.examined.map.bytes;
         let mut texts = Texts { next: self.mmap_addr() + map.len() as u64, bytes: Vec::new() };
         let name = texts.store(LOADER_NAME);
-        let command_line = texts.store(self.request.command_line);
+        let command_line = texts.store(self.examined.command_line);
         let entries = self.module_entries(&mut texts);
         let structure = self.structure(name, command_line);
         let bytes = [&structure[..], &entries, map, &texts.bytes].concat();
@@ -81,7 +81,7 @@ impl<'a> BootInfo<'a> {
     }
 
     fn structure(&self, name: u32, command_line: u32) -> Vec<u8> {
-        let usable = self.request.map.usable();
+        let usable = self.examined.map.usable();
         let flags = match command_line {
             0 => INFO_FLAGS,
             _ => INFO_FLAGS | INFO_CMDLINE,
@@ -94,7 +94,7 @@ impl<'a> BootInfo<'a> {
         put(information::CMDLINE, command_line);
         put(information::MODS_COUNT, word(self.modules.len() as u64));
         put(information::MODS_ADDR, word(self.mods_addr()));
-        put(information::MMAP_LENGTH, word(self.request.map.bytes.len() as u64));
+        put(information::MMAP_LENGTH, word(self.examined.map.bytes.len() as u64));
         put(information::MMAP_ADDR, word(self.mmap_addr()));
         put(information::BOOT_LOADER_NAME, name);
         bytes
@@ -102,7 +102,7 @@ impl<'a> BootInfo<'a> {
 
     fn module_entries(&self, texts: &mut Texts) -> Vec<u8> {
         let mut bytes = Vec::new();
-        for (module, span) in self.request.submission.modules.iter().zip(self.modules) {
+        for (module, span) in self.examined.submission.modules.iter().zip(self.modules) {
             let string = texts.store(module.string);
             for field in [word(span.start), word(span.end), string, 0] {
                 bytes.extend_from_slice(&field.to_le_bytes());

@@ -9,7 +9,7 @@ use crate::limits::{
 use crate::plan::Refusal;
 
 /// Flag bits 2 to 15.
-const UNKNOWN_DEMANDS: u32 = 0xFFFC;
+const UNKNOWN_REQUESTS: u32 = 0xFFFC;
 
 /// A place in the image file, never an address.
 #[derive(Clone, Copy, Debug, PartialEq, Eq)]
@@ -39,7 +39,7 @@ impl<'a> Kernel<'a> {
         let header_offset = find_header(image).ok_or(Refusal::NoHeader)?;
         let flags = u32_at(image, header_offset.0 as usize + header::FLAGS);
         let fields = AddressFields::read(image, header_offset, flags)?;
-        let load_offset = load_offset(&fields, header_offset).ok_or(Refusal::LoadOutsideImage)?;
+        let load_offset = load_offset(&fields, header_offset).ok_or(Refusal::LoadBeforeImage)?;
         let length = load_length(&fields, load_offset, image.len() as u64)?;
         let load = Span { start: fields.load, end: fields.load + length };
         if fields.bss_end != 0 && fields.bss_end < load.end {
@@ -86,8 +86,8 @@ fn find_header(image: &[u8]) -> Option<ImageOffset> {
 impl AddressFields {
     /// The fields behind the flags and the checksum (checks 7 to 9).
     fn read(image: &[u8], offset: ImageOffset, flags: u32) -> Result<Self, Refusal> {
-        if flags & UNKNOWN_DEMANDS != 0 {
-            return Err(Refusal::UnknownDemand);
+        if flags & UNKNOWN_REQUESTS != 0 {
+            return Err(Refusal::UnknownRequest);
         }
         if flags & ADDRESS_FIELDS == 0 {
             return Err(Refusal::NoAddressFields);

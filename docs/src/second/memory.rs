@@ -29,17 +29,17 @@ struct Edge {
 impl<'a> MemoryMap<'a> {
     pub fn read(bytes: &'a [u8]) -> Result<Self, Refusal> {
         if bytes.is_empty() || bytes.len() > MAX_MAP {
-            return Err(Refusal::BadMap);
+            return Err(Refusal::BadMemoryMap);
         }
         let mut regions = Vec::new();
         let mut rest = bytes;
         while !rest.is_empty() {
-            let (region, behind) = read_pair(rest).ok_or(Refusal::BadMap)?;
+            let (region, behind) = read_pair(rest).ok_or(Refusal::BadMemoryMap)?;
             regions.push(region);
             rest = behind;
         }
         if regions.len() > MAX_PAIRS {
-            return Err(Refusal::BadMap);
+            return Err(Refusal::BadMemoryMap);
         }
         Ok(MemoryMap { bytes, regions })
     }

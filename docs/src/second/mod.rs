@@ -21,16 +21,16 @@ use submission::Submission;
 
 /// Loads the case into the window, or refuses and leaves the window as it was.
 pub fn load(case: &Case, window: &mut [u8]) -> Words {
-    let answer: Answer = examine(case).and_then(|request| {
-        let layout = place(&request)?;
-        write(&request, &layout, window);
-        Ok(plan_of(&request, &layout))
+    let answer: Answer = examine(case).and_then(|examined| {
+        let layout = place(&examined)?;
+        write(&examined, &layout, window);
+        Ok(plan_of(&examined, &layout))
     });
     plan::words(&answer)
 }
 
 /// What is to be loaded: everything known before the kernel meets the board.
-pub struct Request<'a> {
+pub struct Examined<'a> {
     pub kernel: Kernel<'a>,
     pub submission: Submission<'a>,
     pub command_line: &'a [u8],
@@ -39,14 +39,14 @@ pub struct Request<'a> {
 }
 
 /// Checks 1 to 14.
-pub fn examine(case: &Case) -> Result<Request<'_>, Refusal> {
+pub fn examine(case: &Case) -> Result<Examined<'_>, Refusal> {
     let submission = Submission::read(&case.submission)?;
     if case.operator.len() > MAX_LINE || case.operator.contains(&0) {
         return Err(Refusal::BadOperatorLine);
     }
     let Range { start, end } = case.addresses();
     if end > TOP {
-        return Err(Refusal::WindowTooHigh);
+        return Err(Refusal::WindowPastTop);
     }
     let map = MemoryMap::read(&case.map)?;
     let kernel = Kernel::read(submission.image)?;
@@ -54,10 +54,10 @@ pub fn examine(case: &Case) -> Result<Request<'_>, Refusal> {
         [] => submission.command_line,
         operator => operator,
     };
-    Ok(Request { kernel, submission, command_line, map, window: Span { start, end } })
+    Ok(Examined { kernel, submission, command_line, map, window: Span { start, end } })
 }
 
-impl Request<'_> {
+impl Examined<'_> {
     /// The modules in list order.
     pub fn module_items(&self) -> Vec<Item> {
         let boundary = if self.kernel.page_aligned { PAGE } else { WORD };
@@ -79,18 +79,18 @@ struct Layout {
 }
 
 /// Checks 15 to 17.
-fn place(request: &Request) -> Result<Layout, Refusal> {
-    let mut free = request.map.usable().within(request.window);
-    if !free.covers(request.kernel.extent()) {
+fn place(examined: &Examined) -> Result<Layout, Refusal> {
+    let mut free = examined.map.usable().within(examined.window);
+    if !free.covers(examined.kernel.extent()) {
         return Err(Refusal::KernelNotOpen);
     }
-    free.remove(request.kernel.extent());
+    free.remove(examined.kernel.extent());
     let mut modules = Vec::new();
-    for (index, item) in request.module_items().into_iter().enumerate() {
+    for (index, item) in examined.module_items().into_iter().enumerate() {
         let span = take(&mut free, item).ok_or(Refusal::NoRoomForModule(index as u32))?;
         modules.push(span);
     }
-    let block = take(&mut free, request.block_item()).ok_or(Refusal::NoRoomForBlock)?;
+    let block = take(&mut free, examined.block_item()).ok_or(Refusal::NoRoomForBlock)?;
     Ok(Layout { modules, block })
 }
 
@@ -103,14 +103,14 @@ fn take(free: &mut SpanSet, item: Item) -> Option<Span> {
 }
 
 /// Writes the load bytes, zeros over the bss, the modules and the information block.
-fn write(request: &Request, layout: &Layout, window: &mut [u8]) {
-    let (kernel, lent) = (&request.kernel, request.window);
+fn write(examined: &Examined, layout: &Layout, window: &mut [u8]) {
+    let (kernel, lent) = (&examined.kernel, examined.window);
     part(window, lent, kernel.load).copy_from_slice(kernel.load_bytes);
     part(window, lent, kernel.bss()).fill(0);
-    for (module, &span) in request.submission.modules.iter().zip(&layout.modules) {
+    for (module, &span) in examined.submission.modules.iter().zip(&layout.modules) {
         part(window, lent, span).copy_from_slice(module.data);
     }
-    let info = BootInfo::new(request, layout);
+    let info = BootInfo::new(examined, layout);
     part(window, lent, layout.block).copy_from_slice(&info.bytes());
 }
 
@@ -120,8 +120,8 @@ fn part(window: &mut [u8], lent: Span, span: Span) -> &mut [u8] {
     &mut window[offset(span.start)..offset(span.end)]
 }
 
-fn plan_of(request: &Request, layout: &Layout) -> Plan {
-    let kernel = &request.kernel;
+fn plan_of(examined: &Examined, layout: &Layout) -> Plan {
+    let kernel = &examined.kernel;
     let mut segments = [Segment::default(); MAX_SEGMENTS];
     segments[0] = Segment {
         start: word(kernel.load.start),
