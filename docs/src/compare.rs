@@ -3,8 +3,8 @@
 use crate::bytes::u32_at;
 use crate::case::Case;
 use crate::handover;
-use crate::layout::information;
 use crate::naive::Board;
+use crate::offsets::structure;
 use crate::plan::{reachable_numbers, Item, Loader, Plan, Words};
 use crate::second;
 use std::ops::Range;
@@ -101,9 +101,10 @@ impl NaiveView {
         }
         let block = (plan.block.start - self.board.window.start as u32) as usize;
         let size = |offset: usize| u64::from(u32_at(&outcome.window, block + offset));
-        let (lower, upper) = self.board.memory_sizes();
-        if (size(information::MEM_LOWER), size(information::MEM_UPPER)) != (lower, upper) {
-            return Err(format!("address by address the sizes are {lower} and {upper}"));
+        let (mem_lower, mem_upper) = self.board.memory_sizes();
+        let sizes = (size(structure::MEM_LOWER), size(structure::MEM_UPPER));
+        if sizes != (mem_lower, mem_upper) {
+            return Err(format!("address by address the sizes are {mem_lower} and {mem_upper}"));
         }
         Ok(())
     }

@@ -3,12 +3,12 @@
 use crate::bytes::u32_at;
 use crate::case::Case;
 use crate::compare::{run, Outcome};
-use crate::layout::{header, information};
 use crate::limits::{
     ADDRESS_SPACE, FLOOR, HEADER_MAGIC, MAX_LINE, MAX_MAP, MAX_MEM_LOWER, MAX_MODULES, MAX_PAIRS,
     MAX_STRING, MIN_PAIR_SIZE, TOP, USABLE, WORD,
 };
 use crate::naive::Board;
+use crate::offsets::{header, structure};
 use crate::pair::{map_bytes, pairs, Pair};
 use crate::plan::{reachable_numbers, Extent, Plan, Refusal};
 use crate::second::{self, Examined};
@@ -272,7 +272,7 @@ impl Load<'_> {
 
     fn mem_lower(&self) -> u64 {
         let block = (self.plan.block.start - self.case.first) as usize;
-        u64::from(u32_at(&self.outcome.window, block + information::MEM_LOWER))
+        u64::from(u32_at(&self.outcome.window, block + structure::MEM_LOWER))
     }
 
     fn items(&self) -> impl Iterator<Item = &Extent> {

@@ -4,25 +4,25 @@
 use crate::bytes::u32_at;
 use crate::case::Case;
 use crate::compare::Outcome;
-use crate::layout::{header, information};
 use crate::limits::{
-    BOOT_MAGIC, FLOOR, INFO_CMDLINE, INFO_FLAGS, LOADER_NAME, MODULE_ENTRY, PAGE, PAGE_ALIGNED,
-    STRUCTURE, WORD,
+    BOOT_MAGIC, CMDLINE_FLAG, FLOOR, LOADER_NAME, MODULE_ENTRY, PAGE, PAGE_ALIGNED, STRUCTURE,
+    STRUCTURE_FLAGS, WORD,
 };
+use crate::offsets::{header, structure};
 use crate::plan::{Extent, Plan, Segment};
 use crate::second::submission::{Module, Submission};
 
-/// The fields of the information structure that are given.
+/// The fields of the block's structure that are given.
 const GIVEN: [usize; 9] = [
-    information::FLAGS,
-    information::MEM_LOWER,
-    information::MEM_UPPER,
-    information::CMDLINE,
-    information::MODS_COUNT,
-    information::MODS_ADDR,
-    information::MMAP_LENGTH,
-    information::MMAP_ADDR,
-    information::BOOT_LOADER_NAME,
+    structure::FLAGS,
+    structure::MEM_LOWER,
+    structure::MEM_UPPER,
+    structure::CMDLINE,
+    structure::MODS_COUNT,
+    structure::MODS_ADDR,
+    structure::MMAP_LENGTH,
+    structure::MMAP_ADDR,
+    structure::BOOT_LOADER_NAME,
 ];
 
 /// Says what in a load is not as it should be.
@@ -139,7 +139,7 @@ impl<'a> Load<'a> {
         demand(unused.iter().all(|m| *m == Extent::default()), "modules")
     }
 
-    /// A word of the information structure.
+    /// A word of the block's structure.
     fn field(&self, offset: usize) -> Result<u64, String> {
         self.memory.word(u64::from(self.plan.ebx) + offset as u64)
     }
@@ -150,14 +150,14 @@ impl<'a> Load<'a> {
         demand(self.plan.eax == BOOT_MAGIC, "EAX")?;
         demand(self.plan.ebx == self.plan.block.start, "EBX")?;
         demand(ebx >= FLOOR && ebx % WORD == 0, "block's boundary")?;
-        let with_line = if self.command_line().is_empty() { 0 } else { INFO_CMDLINE };
-        let flags = u64::from(INFO_FLAGS | with_line);
-        demand(self.field(information::FLAGS)? == flags, "flags")?;
-        let count = self.submission.modules.len() as u64;
-        demand(self.field(information::MODS_COUNT)? == count, "mods_count")?;
-        demand(self.field(information::MODS_ADDR)? == ebx + STRUCTURE, "mods_addr")?;
-        let length = self.case.map.len() as u64;
-        demand(self.field(information::MMAP_LENGTH)? == length, "mmap_length")?;
+        let with_line = if self.command_line().is_empty() { 0 } else { CMDLINE_FLAG };
+        let flags = u64::from(STRUCTURE_FLAGS | with_line);
+        demand(self.field(structure::FLAGS)? == flags, "flags")?;
+        let mods_count = self.submission.modules.len() as u64;
+        demand(self.field(structure::MODS_COUNT)? == mods_count, "mods_count")?;
+        demand(self.field(structure::MODS_ADDR)? == ebx + STRUCTURE, "mods_addr")?;
+        let mmap_length = self.case.map.len() as u64;
+        demand(self.field(structure::MMAP_LENGTH)? == mmap_length, "mmap_length")?;
         for offset in (0..STRUCTURE as usize).step_by(4).filter(|at| !GIVEN.contains(at)) {
             demand(self.field(offset)? == 0, "fields not given")?;
         }
@@ -166,7 +166,7 @@ impl<'a> Load<'a> {
 
     /// Each entry tells the module's place and its string.
     fn module_entries(&self) -> Result<(), String> {
-        let mut entry = self.field(information::MODS_ADDR)?;
+        let mut entry = self.field(structure::MODS_ADDR)?;
         for (module, place) in self.placed_modules() {
             let word = |offset: u64| self.memory.word(entry + offset);
             demand(word(0)? == u64::from(place.start), "mod_start")?;
@@ -188,7 +188,7 @@ impl<'a> Load<'a> {
         let mods_addr = u64::from(self.plan.ebx) + STRUCTURE;
         let entries = (mods_addr..).step_by(MODULE_ENTRY as usize);
         let mut next = mods_addr + MODULE_ENTRY * self.submission.modules.len() as u64;
-        demand(self.field(information::MMAP_ADDR)? == next, "mmap_addr")?;
+        demand(self.field(structure::MMAP_ADDR)? == next, "mmap_addr")?;
         let end = next + self.case.map.len() as u64;
         demand(self.memory.part(next, end)? == self.case.map, "map")?;
         next = end;
@@ -201,8 +201,8 @@ impl<'a> Load<'a> {
             }
             Ok::<(), String>(())
         };
-        expect(LOADER_NAME, self.field(information::BOOT_LOADER_NAME)?)?;
-        expect(self.command_line(), self.field(information::CMDLINE)?)?;
+        expect(LOADER_NAME, self.field(structure::BOOT_LOADER_NAME)?)?;
+        expect(self.command_line(), self.field(structure::CMDLINE)?)?;
         for (module, entry) in self.submission.modules.iter().zip(entries) {
             expect(module.string, self.memory.word(entry + 8)?)?;
         }

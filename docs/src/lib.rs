@@ -1,7 +1,7 @@
 //! The host side of viertompu: a second loader of Multiboot 0.6.93 kernels, written from the
 //! rules alone, and the means to hold another loader against it.
 //!
-//! - [`limits`], [`layout`]: the numbers of the rules, and where the fields of the formats stand
+//! - [`limits`], [`offsets`]: the numbers of the rules, and where the fields of the formats stand
 //! - [`bytes`], [`pair`], [`rng`]: little-endian numbers, map pairs, seeded random numbers
 //! - [`plan`]: what a loader answers, as types and as 96 words
 //! - [`second`]: the second loader; it places items by sets of spans
@@ -21,9 +21,9 @@ pub mod compare;
 pub mod coverage;
 pub mod generate;
 pub mod handover;
-pub mod layout;
 pub mod limits;
 pub mod naive;
+pub mod offsets;
 pub mod pair;
 pub mod plan;
 #[cfg(feature = "proved")]

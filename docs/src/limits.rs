@@ -54,11 +54,11 @@ pub const ADDRESS_FIELDS: u32 = 1 << 16;
 
 /// EAX at the hand-over.
 pub const BOOT_MAGIC: u32 = 0x2BAD_B002;
-/// The information structure's flags: memory sizes, modules, memory map and loader name.
-pub const INFO_FLAGS: u32 = 0x249;
+/// The flags of the block's structure: memory sizes, modules, memory map and loader name.
+pub const STRUCTURE_FLAGS: u32 = 0x249;
 /// Its flag for a command line.
-pub const INFO_CMDLINE: u32 = 0x4;
-/// The bytes of the information structure.
+pub const CMDLINE_FLAG: u32 = 0x4;
+/// The bytes of the block's structure.
 pub const STRUCTURE: u64 = 88;
 /// The bytes of one module entry of the information block.
 pub const MODULE_ENTRY: u64 = 16;

@@ -5,8 +5,8 @@ use viertompu_host::bytes::{put_u32, u32_at};
 use viertompu_host::case::Case;
 use viertompu_host::compare::{run, same, sound, NaiveView, Outcome};
 use viertompu_host::generate::draft::pattern;
-use viertompu_host::layout::information;
 use viertompu_host::limits::{FLOOR, USABLE};
+use viertompu_host::offsets::structure;
 use viertompu_host::pair::{map_bytes, Pair};
 use viertompu_host::plan::{Loader, Plan, Refusal, Words};
 use viertompu_host::{generate, review, second};
@@ -52,7 +52,7 @@ fn clears_a_byte_behind_the_bss(case: &Case, window: &mut [u8]) -> Words {
     words
 }
 
-/// Loads, and adds 1 to a field of the information structure.
+/// Loads, and adds 1 to a field of the block's structure.
 fn invents(field: usize, case: &Case, window: &mut [u8]) -> Words {
     let words = second::load(case, window);
     if let Some(plan) = Plan::of_words(&words) {
@@ -63,11 +63,11 @@ fn invents(field: usize, case: &Case, window: &mut [u8]) -> Words {
 }
 
 fn invents_mem_upper(case: &Case, window: &mut [u8]) -> Words {
-    invents(information::MEM_UPPER, case, window)
+    invents(structure::MEM_UPPER, case, window)
 }
 
 fn invents_mods_count(case: &Case, window: &mut [u8]) -> Words {
-    invents(information::MODS_COUNT, case, window)
+    invents(structure::MODS_COUNT, case, window)
 }
 
 fn writes_before_it_refuses(case: &Case, window: &mut [u8]) -> Words {

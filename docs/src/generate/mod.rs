@@ -224,10 +224,10 @@ fn map_length(sizes: &[u32]) -> u32 {
 
 /// The information block's length.
 fn block_length(sizes: &[u32], line: &[u8], modules: &[Module]) -> u64 {
-    let stored = |text: &[u8]| text.len() + usize::from(!text.is_empty());
+    let text_size = |text: &[u8]| text.len() + usize::from(!text.is_empty());
     let map = u64::from(map_length(sizes));
-    let strings: usize = modules.iter().map(|module| stored(&module.string)).sum();
-    let texts = stored(LOADER_NAME) + stored(line) + strings;
+    let strings: usize = modules.iter().map(|module| text_size(&module.string)).sum();
+    let texts = text_size(LOADER_NAME) + text_size(line) + strings;
     STRUCTURE + MODULE_ENTRY * modules.len() as u64 + map + texts as u64
 }
 

@@ -2,10 +2,10 @@
 
 use super::spans::Span;
 use crate::bytes::u32_at;
-use crate::layout::header;
 use crate::limits::{
     ADDRESS_FIELDS, FULL_HEADER, HEADER_MAGIC, PAGE_ALIGNED, SEARCH_LIMIT, SHORT_HEADER,
 };
+use crate::offsets::header;
 use crate::plan::Refusal;
 
 /// Flag bits 2 to 15.
@@ -27,11 +27,11 @@ pub struct Kernel<'a> {
 
 /// The address fields, as exact numbers.
 struct AddressFields {
-    header: u64,
-    load: u64,
-    load_end: u64,
-    bss_end: u64,
-    entry: u32,
+    header_addr: u64,
+    load_addr: u64,
+    load_end_addr: u64,
+    bss_end_addr: u64,
+    entry_addr: u32,
 }
 
 impl<'a> Kernel<'a> {
@@ -41,11 +41,11 @@ impl<'a> Kernel<'a> {
         let fields = AddressFields::read(image, header_offset, flags)?;
         let load_offset = load_offset(&fields, header_offset).ok_or(Refusal::LoadBeforeImage)?;
         let length = load_length(&fields, load_offset, image.len() as u64)?;
-        let load = Span { start: fields.load, end: fields.load + length };
-        if fields.bss_end != 0 && fields.bss_end < load.end {
+        let load = Span { start: fields.load_addr, end: fields.load_addr + length };
+        if fields.bss_end_addr != 0 && fields.bss_end_addr < load.end {
             return Err(Refusal::BssBelowLoadEnd);
         }
-        if !load.contains(u64::from(fields.entry)) {
+        if !load.contains(u64::from(fields.entry_addr)) {
             return Err(Refusal::EntryOutsideLoad);
         }
         Ok(Kernel {
@@ -53,8 +53,8 @@ impl<'a> Kernel<'a> {
             page_aligned: flags & PAGE_ALIGNED != 0,
             load,
             load_bytes: &image[load_offset.0 as usize..(load_offset.0 + length) as usize],
-            bss_end: fields.bss_end,
-            entry: fields.entry,
+            bss_end: fields.bss_end_addr,
+            entry: fields.entry_addr,
         })
     }
 
@@ -98,27 +98,27 @@ impl AddressFields {
         }
         let field = |offset: usize| u32_at(image, at + offset);
         Ok(AddressFields {
-            header: field(header::HEADER_ADDR).into(),
-            load: field(header::LOAD_ADDR).into(),
-            load_end: field(header::LOAD_END_ADDR).into(),
-            bss_end: field(header::BSS_END_ADDR).into(),
-            entry: field(header::ENTRY_ADDR),
+            header_addr: field(header::HEADER_ADDR).into(),
+            load_addr: field(header::LOAD_ADDR).into(),
+            load_end_addr: field(header::LOAD_END_ADDR).into(),
+            bss_end_addr: field(header::BSS_END_ADDR).into(),
+            entry_addr: field(header::ENTRY_ADDR),
         })
     }
 }
 
 /// Where the load begins: as far before the header as load_addr lies below header_addr.
 fn load_offset(fields: &AddressFields, header: ImageOffset) -> Option<ImageOffset> {
-    let distance = fields.header.checked_sub(fields.load)?;
+    let distance = fields.header_addr.checked_sub(fields.load_addr)?;
     header.0.checked_sub(distance).map(ImageOffset)
 }
 
 /// The count of load bytes (checks 11 and 12).
 fn load_length(fields: &AddressFields, from: ImageOffset, image: u64) -> Result<u64, Refusal> {
-    if fields.load_end == 0 {
+    if fields.load_end_addr == 0 {
         let left = image.saturating_sub(from.0);
         return if left == 0 { Err(Refusal::NothingToLoad) } else { Ok(left) };
     }
-    let length = fields.load_end.checked_sub(fields.load);
+    let length = fields.load_end_addr.checked_sub(fields.load_addr);
     length.filter(|length| from.0 + length <= image).ok_or(Refusal::LoadPastImage)
 }

@@ -3,18 +3,18 @@
 //!
 //! Physical addresses are plain `u64`; offsets in the image are `kernel::ImageOffset`.
 
-mod boot_info;
+mod block;
 mod kernel;
-mod memory;
+mod memory_map;
 mod spans;
 pub mod submission;
 
 use crate::case::Case;
 use crate::limits::{BOOT_MAGIC, MAX_LINE, MAX_MODULES, MAX_SEGMENTS, PAGE, TOP, WORD};
 use crate::plan::{self, Answer, Extent, Item, Plan, Refusal, Segment, Words};
-use boot_info::BootInfo;
+use block::Block;
 use kernel::Kernel;
-use memory::MemoryMap;
+use memory_map::MemoryMap;
 use spans::{Span, SpanSet};
 use std::ops::Range;
 use submission::Submission;
@@ -22,9 +22,9 @@ use submission::Submission;
 /// Loads the case into the window, or refuses and leaves the window as it was.
 pub fn load(case: &Case, window: &mut [u8]) -> Words {
     let answer: Answer = examine(case).and_then(|examined| {
-        let layout = place(&examined)?;
-        write(&examined, &layout, window);
-        Ok(plan_of(&examined, &layout))
+        let placed = place(&examined)?;
+        write(&examined, &placed, window);
+        Ok(plan_of(&examined, &placed))
     });
     plan::words(&answer)
 }
@@ -68,18 +68,18 @@ impl Examined<'_> {
 
     /// The information block.
     pub fn block_item(&self) -> Item {
-        Item { length: boot_info::length(self), boundary: WORD }
+        Item { length: block::length(self), boundary: WORD }
     }
 }
 
 /// Where the items stand.
-struct Layout {
+struct Placed {
     modules: Vec<Span>,
     block: Span,
 }
 
 /// Checks 15 to 17.
-fn place(examined: &Examined) -> Result<Layout, Refusal> {
+fn place(examined: &Examined) -> Result<Placed, Refusal> {
     let mut free = examined.map.usable().within(examined.window);
     if !free.covers(examined.kernel.extent()) {
         return Err(Refusal::KernelNotOpen);
@@ -91,7 +91,7 @@ fn place(examined: &Examined) -> Result<Layout, Refusal> {
         modules.push(span);
     }
     let block = take(&mut free, examined.block_item()).ok_or(Refusal::NoRoomForBlock)?;
-    Ok(Layout { modules, block })
+    Ok(Placed { modules, block })
 }
 
 /// Takes the lowest place of an item out of the free memory, or nothing where it has none.
@@ -103,15 +103,15 @@ fn take(free: &mut SpanSet, item: Item) -> Option<Span> {
 }
 
 /// Writes the load bytes, zeros over the bss, the modules and the information block.
-fn write(examined: &Examined, layout: &Layout, window: &mut [u8]) {
+fn write(examined: &Examined, placed: &Placed, window: &mut [u8]) {
     let (kernel, lent) = (&examined.kernel, examined.window);
     part(window, lent, kernel.load).copy_from_slice(kernel.load_bytes);
     part(window, lent, kernel.bss()).fill(0);
-    for (module, &span) in examined.submission.modules.iter().zip(&layout.modules) {
+    for (module, &span) in examined.submission.modules.iter().zip(&placed.modules) {
         part(window, lent, span).copy_from_slice(module.data);
     }
-    let info = BootInfo::new(examined, layout);
-    part(window, lent, layout.block).copy_from_slice(&info.bytes());
+    let block = Block::new(examined, placed);
+    part(window, lent, placed.block).copy_from_slice(&block.bytes());
 }
 
 /// The window's bytes that stand for a span.
@@ -120,7 +120,7 @@ fn part(window: &mut [u8], lent: Span, span: Span) -> &mut [u8] {
     &mut window[offset(span.start)..offset(span.end)]
 }
 
-fn plan_of(examined: &Examined, layout: &Layout) -> Plan {
+fn plan_of(examined: &Examined, placed: &Placed) -> Plan {
     let kernel = &examined.kernel;
     let mut segments = [Segment::default(); MAX_SEGMENTS];
     segments[0] = Segment {
@@ -129,15 +129,15 @@ fn plan_of(examined: &Examined, layout: &Layout) -> Plan {
         extent_end: word(kernel.extent().end),
     };
     let mut modules = [Extent::default(); MAX_MODULES];
-    for (slot, &span) in modules.iter_mut().zip(&layout.modules) {
+    for (slot, &span) in modules.iter_mut().zip(&placed.modules) {
         *slot = extent(span);
     }
     Plan {
         header_offset: word(kernel.header_offset.0),
         entry: kernel.entry,
         eax: BOOT_MAGIC,
-        ebx: word(layout.block.start),
-        block: extent(layout.block),
+        ebx: word(placed.block.start),
+        block: extent(placed.block),
         segments,
         modules,
     }

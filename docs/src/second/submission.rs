@@ -1,8 +1,8 @@
 //! Reading a submission (checks 1 and 2).
 
 use crate::bytes::{u16_at, u32_at};
-use crate::layout::{submission, table_entry};
 use crate::limits::{MARK, MAX_LINE, MAX_MODULES, MAX_STRING, PREFIX, TABLE_ENTRY, VERSION};
+use crate::offsets::{submission, table_entry};
 use crate::plan::Refusal;
 
 /// A submission's parts, each a part of the lent bytes.

@@ -1,4 +1,4 @@
-//! Where the fields of the submission, the header and the information structure stand.
+//! Where the fields of the submission, the header and the information block's structure stand.
 
 /// Offsets in a submission.
 pub mod submission {
@@ -26,8 +26,8 @@ pub mod header {
     pub const ENTRY_ADDR: usize = 28;
 }
 
-/// Offsets in the information structure.
-pub mod information {
+/// Offsets in the information block's structure.
+pub mod structure {
     pub const FLAGS: usize = 0;
     pub const MEM_LOWER: usize = 4;
     pub const MEM_UPPER: usize = 8;

@@ -1,26 +1,26 @@
 //! The information block.
 
-use super::memory::{mem_lower, mem_upper};
+use super::memory_map::{mem_lower, mem_upper};
 use super::spans::Span;
-use super::{word, Examined, Layout};
+use super::{word, Examined, Placed};
 use crate::bytes::put_u32;
-use crate::layout::information;
-use crate::limits::{INFO_CMDLINE, INFO_FLAGS, LOADER_NAME, MODULE_ENTRY, STRUCTURE};
+use crate::limits::{CMDLINE_FLAG, LOADER_NAME, MODULE_ENTRY, STRUCTURE, STRUCTURE_FLAGS};
+use crate::offsets::structure;
 
 /// The block's length, known before anything is placed.
 pub fn length(examined: &Examined) -> u64 {
     let modules = &examined.submission.modules;
-    let strings: u64 = modules.iter().map(|module| stored(module.string)).sum();
+    let strings: u64 = modules.iter().map(|module| text_size(module.string)).sum();
     STRUCTURE
         + MODULE_ENTRY * modules.len() as u64
         + examined.map.bytes.len() as u64
-        + stored(LOADER_NAME)
-        + stored(examined.command_line)
+        + text_size(LOADER_NAME)
+        + text_size(examined.command_line)
         + strings
 }
 
 /// The bytes a text takes: itself and a zero, or none if it is empty.
-fn stored(text: &[u8]) -> u64 {
+fn text_size(text: &[u8]) -> u64 {
     match text {
         [] => 0,
         _ => text.len() as u64 + 1,
@@ -28,10 +28,10 @@ fn stored(text: &[u8]) -> u64 {
 }
 
 /// Everything the block tells.
-pub struct BootInfo<'a> {
+pub struct Block<'a> {
     examined: &'a Examined<'a>,
     modules: &'a [Span],
-    block: Span,
+    span: Span,
 }
 
 /// Texts one behind the other, each with a zero.
@@ -49,18 +49,18 @@ impl Texts {
         let address = word(self.next);
         self.bytes.extend_from_slice(text);
         self.bytes.push(0);
-        self.next += stored(text);
+        self.next += text_size(text);
         address
     }
 }
 
-impl<'a> BootInfo<'a> {
-    pub fn new(examined: &'a Examined<'a>, layout: &'a Layout) -> Self {
-        BootInfo { examined, modules: &layout.modules, block: layout.block }
+impl<'a> Block<'a> {
+    pub fn new(examined: &'a Examined<'a>, placed: &'a Placed) -> Self {
+        Block { examined, modules: &placed.modules, span: placed.block }
     }
 
     fn mods_addr(&self) -> u64 {
-        self.block.start + STRUCTURE
+        self.span.start + STRUCTURE
     }
 
     fn mmap_addr(&self) -> u64 {
@@ -71,32 +71,32 @@ impl<'a> BootInfo<'a> {
     pub fn bytes(&self) -> Vec<u8> {
         let map = self.examined.map.bytes;
         let mut texts = Texts { next: self.mmap_addr() + map.len() as u64, bytes: Vec::new() };
-        let name = texts.store(LOADER_NAME);
-        let command_line = texts.store(self.examined.command_line);
+        let boot_loader_name = texts.store(LOADER_NAME);
+        let cmdline = texts.store(self.examined.command_line);
         let entries = self.module_entries(&mut texts);
-        let structure = self.structure(name, command_line);
+        let structure = self.structure(boot_loader_name, cmdline);
         let bytes = [&structure[..], &entries, map, &texts.bytes].concat();
-        assert_eq!(bytes.len() as u64, self.block.end - self.block.start);
+        assert_eq!(bytes.len() as u64, self.span.end - self.span.start);
         bytes
     }
 
-    fn structure(&self, name: u32, command_line: u32) -> Vec<u8> {
+    fn structure(&self, boot_loader_name: u32, cmdline: u32) -> Vec<u8> {
         let usable = self.examined.map.usable();
-        let flags = match command_line {
-            0 => INFO_FLAGS,
-            _ => INFO_FLAGS | INFO_CMDLINE,
+        let flags = match cmdline {
+            0 => STRUCTURE_FLAGS,
+            _ => STRUCTURE_FLAGS | CMDLINE_FLAG,
         };
         let mut bytes = vec![0; STRUCTURE as usize];
         let mut put = |field: usize, value: u32| put_u32(&mut bytes, field, value);
-        put(information::FLAGS, flags);
-        put(information::MEM_LOWER, word(mem_lower(&usable)));
-        put(information::MEM_UPPER, word(mem_upper(&usable)));
-        put(information::CMDLINE, command_line);
-        put(information::MODS_COUNT, word(self.modules.len() as u64));
-        put(information::MODS_ADDR, word(self.mods_addr()));
-        put(information::MMAP_LENGTH, word(self.examined.map.bytes.len() as u64));
-        put(information::MMAP_ADDR, word(self.mmap_addr()));
-        put(information::BOOT_LOADER_NAME, name);
+        put(structure::FLAGS, flags);
+        put(structure::MEM_LOWER, word(mem_lower(&usable)));
+        put(structure::MEM_UPPER, word(mem_upper(&usable)));
+        put(structure::CMDLINE, cmdline);
+        put(structure::MODS_COUNT, word(self.modules.len() as u64));
+        put(structure::MODS_ADDR, word(self.mods_addr()));
+        put(structure::MMAP_LENGTH, word(self.examined.map.bytes.len() as u64));
+        put(structure::MMAP_ADDR, word(self.mmap_addr()));
+        put(structure::BOOT_LOADER_NAME, boot_loader_name);
         bytes
     }
 
