@@ -57,7 +57,7 @@ pub fn sound(case: &Case, outcome: &Outcome) -> Result<(), String> {
 /// A case as the address-by-address model sees it, once checks 1 to 14 have passed.
 pub struct NaiveView {
     board: Board,
-    kernel: Range<u64>,
+    extent: Range<u64>,
     modules: Vec<Item>,
     block: Item,
 }
@@ -69,7 +69,7 @@ impl NaiveView {
         let extent = examined.kernel.extent();
         Some(NaiveView {
             board: Board::of(case),
-            kernel: extent.start..extent.end,
+            extent: extent.start..extent.end,
             modules: examined.module_items(),
             block: examined.block_item(),
         })
@@ -82,8 +82,8 @@ impl NaiveView {
 
     /// Says where an outcome differs from the model.
     pub fn agrees(&self, outcome: &Outcome) -> Result<(), String> {
-        let kernel = self.kernel.clone();
-        match self.board.place(kernel, &self.modules, self.block) {
+        let extent = self.extent.clone();
+        match self.board.place(extent, &self.modules, self.block) {
             Err(refusal) if refusal.words() == outcome.words => Ok(()),
             Err(refusal) => Err(format!("address by address it is {refusal:?}")),
             Ok(starts) => self.agrees_with_load(&starts, outcome),

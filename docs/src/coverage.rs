@@ -10,7 +10,7 @@ use crate::limits::{
 use crate::naive::Board;
 use crate::offsets::{header, structure};
 use crate::pair::{map_bytes, pairs, Pair};
-use crate::plan::{reachable_numbers, Extent, Plan, Refusal};
+use crate::plan::{reachable_numbers, Plan, Refusal, Span};
 use crate::second::{self, Examined};
 use std::collections::BTreeMap;
 use std::fmt;
@@ -126,9 +126,8 @@ struct OnBoard<'a> {
 impl OnBoard<'_> {
     fn edges(&self) -> Vec<Edge> {
         let Range { start: first, end } = self.case.addresses();
-        let load_end = self.examined.kernel.load.end;
-        let kernel = self.examined.kernel.extent();
-        let inside = first <= kernel.start && kernel.end <= end;
+        let kernel = &self.examined.kernel;
+        let inside = first <= kernel.start && kernel.extent_end <= end;
         let number = self.outcome.words[0];
         vec![
             ("window empty", first == end),
@@ -149,8 +148,8 @@ impl OnBoard<'_> {
             ("usable pairs that abut", self.usable_two(|a, b| a.end() == b.base.into())),
             ("usable pairs that overlap", self.usable_two(overlap)),
             ("reserved pair over a usable one", self.reserved_over_usable()),
-            ("load end at 2^32", load_end == ADDRESS_SPACE),
-            ("load end past 2^32", load_end > ADDRESS_SPACE),
+            ("load end at 2^32", kernel.load_end == ADDRESS_SPACE),
+            ("load end past 2^32", kernel.load_end > ADDRESS_SPACE),
             ("kernel refused outside the window", number == 15 && !inside),
             ("kernel refused inside the window", number == 15 && inside),
             ("module refused for want of one byte", number == 16 && self.one_byte_short()),
@@ -221,7 +220,7 @@ impl Load<'_> {
         let own_line = !self.examined.submission.command_line.is_empty();
         let load_end_addr = self.header_word(header::LOAD_END_ADDR);
         let bss_end_addr = self.header_word(header::BSS_END_ADDR);
-        let whole = |item: &Extent| self.begins_region(item) && self.ends_region(item);
+        let whole = |span: &Span| self.begins_region(span) && self.ends_region(span);
         vec![
             ("loaded without a command line", self.examined.command_line.is_empty()),
             ("loaded with the submission's line", operator.is_empty() && own_line),
@@ -234,18 +233,18 @@ impl Load<'_> {
             ("loaded with the header behind a false one", self.false_header_first()),
             ("loaded with load_end_addr 0", load_end_addr == 0),
             ("loaded with a load_end_addr", load_end_addr != 0),
-            ("loaded with bss_end_addr at the load end", bss_end_addr == kernel.load.end),
-            ("loaded with a bss", bss_end_addr > kernel.load.end),
-            ("loaded with the kernel below 1 MiB", kernel.load.start < FLOOR),
+            ("loaded with bss_end_addr at the load end", bss_end_addr == kernel.load_end),
+            ("loaded with a bss", bss_end_addr > kernel.load_end),
+            ("loaded with the kernel below 1 MiB", kernel.start < FLOOR),
             ("loaded with page boundaries", kernel.page_aligned),
             ("loaded with mem_lower 640", self.mem_lower() == MAX_MEM_LOWER),
             ("loaded into a window from 0 on", first == 0),
             ("loaded into a window off a word boundary", !first.is_multiple_of(WORD)),
             ("loaded into a window above 2 GiB", first > 1 << 31),
-            ("loaded around a hole", self.behind_parts().any(|a| !self.board.open(a))),
+            ("loaded around a hole", self.behind_spans().any(|a| !self.board.open(a))),
             ("loaded around a reserved pair over a usable one", self.around_reserved()),
-            ("item ends where open memory ends", self.items().any(|i| self.ends_region(i))),
-            ("item fills a region exactly", self.items().any(whole)),
+            ("item ends where open memory ends", self.spans().any(|s| self.ends_region(s))),
+            ("item fills a region exactly", self.spans().any(whole)),
         ]
     }
 
@@ -275,31 +274,32 @@ impl Load<'_> {
         u64::from(u32_at(&self.outcome.window, block + structure::MEM_LOWER))
     }
 
-    fn items(&self) -> impl Iterator<Item = &Extent> {
+    /// The spans of the modules and of the block.
+    fn spans(&self) -> impl Iterator<Item = &Span> {
         let modules = &self.plan.modules[..self.examined.submission.modules.len()];
         modules.iter().chain([&self.plan.block])
     }
 
-    fn ends_region(&self, item: &Extent) -> bool {
-        !self.board.open(u64::from(item.end))
+    fn ends_region(&self, span: &Span) -> bool {
+        !self.board.open(u64::from(span.end))
     }
 
-    fn begins_region(&self, item: &Extent) -> bool {
-        !self.board.open(u64::from(item.start) - 1)
+    fn begins_region(&self, span: &Span) -> bool {
+        !self.board.open(u64::from(span.start) - 1)
     }
 
     /// The addresses right behind kernel and items, up to where the last of them begins.
-    fn behind_parts(&self) -> impl Iterator<Item = u64> {
+    fn behind_spans(&self) -> impl Iterator<Item = u64> {
         let segment = self.plan.segments[0];
-        let kernel = Extent { start: segment.start, end: segment.extent_end };
-        let parts: Vec<Extent> = self.items().copied().chain([kernel]).collect();
-        let last = parts.iter().map(|part| part.start).max();
-        let ends = parts.into_iter().map(|part| part.end);
+        let extent = Span { start: segment.start, end: segment.extent_end };
+        let spans: Vec<Span> = self.spans().copied().chain([extent]).collect();
+        let last = spans.iter().map(|span| span.start).max();
+        let ends = spans.into_iter().map(|span| span.end);
         ends.filter(move |&end| Some(end) < last).map(u64::from)
     }
 
     fn around_reserved(&self) -> bool {
         let usable = |a: u64| self.pairs.iter().any(|p| is_usable(p) && p.covers(a));
-        self.behind_parts().any(|a| usable(a) && !self.board.open(a))
+        self.behind_spans().any(|a| usable(a) && !self.board.open(a))
     }
 }

@@ -9,7 +9,7 @@ use crate::limits::{
     STRUCTURE_FLAGS, WORD,
 };
 use crate::offsets::{header, structure};
-use crate::plan::{Extent, Plan, Segment};
+use crate::plan::{Plan, Segment, Span};
 use crate::second::submission::{Module, Submission};
 
 /// The fields of the block's structure that are given.
@@ -62,8 +62,8 @@ impl<'a> Memory<'a> {
         part.ok_or(format!("{start:08X} to {end:08X} is not in the window"))
     }
 
-    fn extent(&self, extent: Extent) -> Result<&'a [u8], String> {
-        self.part(u64::from(extent.start), u64::from(extent.end))
+    fn span(&self, span: Span) -> Result<&'a [u8], String> {
+        self.part(u64::from(span.start), u64::from(span.end))
     }
 
     fn word(&self, address: u64) -> Result<u64, String> {
@@ -104,8 +104,8 @@ impl<'a> Load<'a> {
         }
     }
 
-    /// The modules with their places.
-    fn placed_modules(&self) -> impl Iterator<Item = (&Module<'a>, &Extent)> {
+    /// The modules with their spans.
+    fn placed_modules(&self) -> impl Iterator<Item = (&Module<'a>, &Span)> {
         self.submission.modules.iter().zip(&self.plan.modules)
     }
 
@@ -130,13 +130,13 @@ impl<'a> Load<'a> {
     fn modules(&self) -> Result<(), String> {
         let flags = self.header_word(header::FLAGS)?;
         let boundary = if flags & PAGE_ALIGNED != 0 { PAGE } else { WORD };
-        for (module, place) in self.placed_modules() {
-            let start = u64::from(place.start);
+        for (module, span) in self.placed_modules() {
+            let start = u64::from(span.start);
             demand(start >= FLOOR && start % boundary == 0, "module's boundary")?;
-            demand(self.memory.extent(*place)? == module.data, "module's data")?;
+            demand(self.memory.span(*span)? == module.data, "module's data")?;
         }
         let unused = &self.plan.modules[self.submission.modules.len()..];
-        demand(unused.iter().all(|m| *m == Extent::default()), "modules")
+        demand(unused.iter().all(|m| *m == Span::default()), "modules")
     }
 
     /// A word of the block's structure.
@@ -167,10 +167,10 @@ impl<'a> Load<'a> {
     /// Each entry tells the module's place and its string.
     fn module_entries(&self) -> Result<(), String> {
         let mut entry = self.field(structure::MODS_ADDR)?;
-        for (module, place) in self.placed_modules() {
+        for (module, span) in self.placed_modules() {
             let word = |offset: u64| self.memory.word(entry + offset);
-            demand(word(0)? == u64::from(place.start), "mod_start")?;
-            demand(word(4)? == u64::from(place.end), "mod_end")?;
+            demand(word(0)? == u64::from(span.start), "mod_start")?;
+            demand(word(4)? == u64::from(span.end), "mod_end")?;
             demand(word(12)? == 0, "module entry's last word")?;
             let told = match word(8)? {
                 0 => &[],
@@ -212,19 +212,19 @@ impl<'a> Load<'a> {
     /// No two parts share a byte, and no byte outside of them changed.
     fn rest(&self) -> Result<(), String> {
         let segment = self.plan.segments[0];
-        let kernel = Extent { start: segment.start, end: segment.extent_end };
-        let mut parts = vec![kernel, self.plan.block];
-        parts.extend(self.placed_modules().map(|(_, place)| place));
-        parts.sort_by_key(|part| part.start);
-        let apart = |two: &[Extent]| two[0].end <= two[1].start;
-        demand(parts.windows(2).all(apart), "parts that share a byte")?;
+        let extent = Span { start: segment.start, end: segment.extent_end };
+        let mut spans = vec![extent, self.plan.block];
+        spans.extend(self.placed_modules().map(|(_, span)| span));
+        spans.sort_by_key(|span| span.start);
+        let apart = |two: &[Span]| two[0].end <= two[1].start;
+        demand(spans.windows(2).all(apart), "parts that share a byte")?;
         let (before, after) = (&self.case.window, self.memory.bytes);
         let unchanged = |from: usize, to: usize| before[from..to] == after[from..to];
         let offset = |address: u32| (u64::from(address) - self.memory.first) as usize;
         let mut from = 0;
-        for part in parts {
-            demand(unchanged(from, offset(part.start)), "bytes between")?;
-            from = offset(part.end);
+        for span in spans {
+            demand(unchanged(from, offset(span.start)), "bytes between")?;
+            from = offset(span.end);
         }
         demand(unchanged(from, after.len()), "bytes behind")
     }

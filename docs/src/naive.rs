@@ -48,14 +48,14 @@ impl Board {
     /// The starts of the modules and of the block, or the refusal from 15 on that applies.
     pub fn place(
         &self,
-        kernel: Range<u64>,
+        extent: Range<u64>,
         modules: &[Item],
         block: Item,
     ) -> Result<Vec<u64>, Refusal> {
-        if !kernel.clone().all(|a| self.open(a)) {
+        if !extent.clone().all(|a| self.open(a)) {
             return Err(Refusal::KernelNotOpen);
         }
-        let unused = |a: u64| self.open(a) && !kernel.contains(&a);
+        let unused = |a: u64| self.open(a) && !extent.contains(&a);
         let mut free: Vec<bool> = self.window.clone().map(unused).collect();
         let mut starts = Vec::new();
         for (index, &module) in modules.iter().enumerate() {

@@ -9,8 +9,12 @@ use crate::limits::{MAX_MODULES, MAX_SEGMENTS};
 /// start and end, 8 to 55 sixteen segments (start, load end, extent end), 56 to 87 sixteen modules
 /// (start, end), 88 to 95 zero.
 pub const WORDS: usize = 96;
-const SEGMENTS_AT: usize = 8;
-const MODULES_AT: usize = 56;
+/// The index of the first segment's first word, and how many words a segment has.
+const FIRST_SEGMENT: usize = 8;
+const WORDS_PER_SEGMENT: usize = 3;
+/// The index of the first module's first word, and how many words a module has.
+const FIRST_MODULE: usize = 56;
+const WORDS_PER_MODULE: usize = 2;
 
 pub type Words = [u32; WORDS];
 
@@ -26,7 +30,7 @@ pub struct Item {
 
 /// The addresses from `start` up to but not including `end`.
 #[derive(Clone, Copy, Debug, Default, PartialEq, Eq)]
-pub struct Extent {
+pub struct Span {
     pub start: u32,
     pub end: u32,
 }
@@ -46,9 +50,9 @@ pub struct Plan {
     pub entry: u32,
     pub eax: u32,
     pub ebx: u32,
-    pub block: Extent,
+    pub block: Span,
     pub segments: [Segment; MAX_SEGMENTS],
-    pub modules: [Extent; MAX_MODULES],
+    pub modules: [Span; MAX_MODULES],
 }
 
 /// Why a submission is not loaded, in the order of the checks.
@@ -147,33 +151,32 @@ impl Plan {
         words[2..6].copy_from_slice(&head);
         words[6..8].copy_from_slice(&[self.block.start, self.block.end]);
         for (i, s) in self.segments.iter().enumerate() {
-            let at = SEGMENTS_AT + 3 * i;
-            words[at..at + 3].copy_from_slice(&[s.start, s.load_end, s.extent_end]);
+            let at = FIRST_SEGMENT + WORDS_PER_SEGMENT * i;
+            words[at..at + WORDS_PER_SEGMENT].copy_from_slice(&[s.start, s.load_end, s.extent_end]);
         }
         for (i, m) in self.modules.iter().enumerate() {
-            let at = MODULES_AT + 2 * i;
-            words[at..at + 2].copy_from_slice(&[m.start, m.end]);
+            let at = FIRST_MODULE + WORDS_PER_MODULE * i;
+            words[at..at + WORDS_PER_MODULE].copy_from_slice(&[m.start, m.end]);
         }
         words
     }
 
     /// The plan in a load's words; nothing where the words are a refusal's.
     pub fn of_words(words: &Words) -> Option<Plan> {
-        let segment = |i: usize| Segment {
-            start: words[SEGMENTS_AT + 3 * i],
-            load_end: words[SEGMENTS_AT + 3 * i + 1],
-            extent_end: words[SEGMENTS_AT + 3 * i + 2],
+        let segment = |i: usize| {
+            let at = FIRST_SEGMENT + WORDS_PER_SEGMENT * i;
+            Segment { start: words[at], load_end: words[at + 1], extent_end: words[at + 2] }
         };
-        let module = |i: usize| Extent {
-            start: words[MODULES_AT + 2 * i],
-            end: words[MODULES_AT + 2 * i + 1],
+        let module = |i: usize| {
+            let at = FIRST_MODULE + WORDS_PER_MODULE * i;
+            Span { start: words[at], end: words[at + 1] }
         };
         (words[0] == 0).then(|| Plan {
             header_offset: words[2],
             entry: words[3],
             eax: words[4],
             ebx: words[5],
-            block: Extent { start: words[6], end: words[7] },
+            block: Span { start: words[6], end: words[7] },
             segments: std::array::from_fn(segment),
             modules: std::array::from_fn(module),
         })

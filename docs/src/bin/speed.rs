@@ -90,8 +90,8 @@ fn parts(case: &Case, plan: &Plan, loaded: &[u8]) -> Vec<(usize, Vec<u8>)> {
         (at(segment.start), submission.image.to_vec()),
         (load_end, vec![0; extent_end - load_end]),
     ];
-    for (module, place) in submission.modules.iter().zip(&plan.modules) {
-        parts.push((at(place.start), module.data.to_vec()));
+    for (module, span) in submission.modules.iter().zip(&plan.modules) {
+        parts.push((at(span.start), module.data.to_vec()));
     }
     let (start, end) = (at(plan.block.start), at(plan.block.end));
     parts.push((start, loaded[start..end].to_vec()));

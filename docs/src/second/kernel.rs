@@ -11,7 +11,7 @@ use crate::plan::Refusal;
 /// Flag bits 2 to 15.
 const UNKNOWN_REQUESTS: u32 = 0xFFFC;
 
-/// A place in the image file, never an address.
+/// A place in the image, never an address.
 #[derive(Clone, Copy, Debug, PartialEq, Eq)]
 pub struct ImageOffset(pub u64);
 
@@ -19,9 +19,10 @@ pub struct ImageOffset(pub u64);
 pub struct Kernel<'a> {
     pub header_offset: ImageOffset,
     pub page_aligned: bool,
-    pub load: Span,
+    pub start: u64,
+    pub load_end: u64,
+    pub extent_end: u64,
     pub load_bytes: &'a [u8],
-    pub bss_end: u64,
     pub entry: u32,
 }
 
@@ -51,21 +52,26 @@ impl<'a> Kernel<'a> {
         Ok(Kernel {
             header_offset,
             page_aligned: flags & PAGE_ALIGNED != 0,
-            load,
+            start: load.start,
+            load_end: load.end,
+            extent_end: load.end.max(fields.bss_end_addr),
             load_bytes: &image[load_offset.0 as usize..(load_offset.0 + length) as usize],
-            bss_end: fields.bss_end_addr,
             entry: fields.entry_addr,
         })
     }
 
-    /// Load bytes and bss.
-    pub fn extent(&self) -> Span {
-        Span { start: self.load.start, end: self.load.end.max(self.bss_end) }
+    /// The load bytes' addresses.
+    pub fn load(&self) -> Span {
+        Span { start: self.start, end: self.load_end }
     }
 
-    /// From the load end to the extent's end.
     pub fn bss(&self) -> Span {
-        Span { start: self.load.end, end: self.extent().end }
+        Span { start: self.load_end, end: self.extent_end }
+    }
+
+    /// Load and bss.
+    pub fn extent(&self) -> Span {
+        Span { start: self.start, end: self.extent_end }
     }
 }
 
@@ -108,9 +114,9 @@ impl AddressFields {
 }
 
 /// Where the load begins: as far before the header as load_addr lies below header_addr.
-fn load_offset(fields: &AddressFields, header: ImageOffset) -> Option<ImageOffset> {
+fn load_offset(fields: &AddressFields, header_offset: ImageOffset) -> Option<ImageOffset> {
     let distance = fields.header_addr.checked_sub(fields.load_addr)?;
-    header.0.checked_sub(distance).map(ImageOffset)
+    header_offset.0.checked_sub(distance).map(ImageOffset)
 }
 
 /// The count of load bytes (checks 11 and 12).

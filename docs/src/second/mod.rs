@@ -11,7 +11,7 @@ pub mod submission;
 
 use crate::case::Case;
 use crate::limits::{BOOT_MAGIC, MAX_LINE, MAX_MODULES, MAX_SEGMENTS, PAGE, TOP, WORD};
-use crate::plan::{self, Answer, Extent, Item, Plan, Refusal, Segment, Words};
+use crate::plan::{self, Answer, Item, Plan, Refusal, Segment, Words};
 use block::Block;
 use kernel::Kernel;
 use memory_map::MemoryMap;
@@ -105,7 +105,7 @@ fn take(free: &mut SpanSet, item: Item) -> Option<Span> {
 /// Writes the load bytes, zeros over the bss, the modules and the information block.
 fn write(examined: &Examined, placed: &Placed, window: &mut [u8]) {
     let (kernel, lent) = (&examined.kernel, examined.window);
-    part(window, lent, kernel.load).copy_from_slice(kernel.load_bytes);
+    part(window, lent, kernel.load()).copy_from_slice(kernel.load_bytes);
     part(window, lent, kernel.bss()).fill(0);
     for (module, &span) in examined.submission.modules.iter().zip(&placed.modules) {
         part(window, lent, span).copy_from_slice(module.data);
@@ -124,27 +124,28 @@ fn plan_of(examined: &Examined, placed: &Placed) -> Plan {
     let kernel = &examined.kernel;
     let mut segments = [Segment::default(); MAX_SEGMENTS];
     segments[0] = Segment {
-        start: word(kernel.load.start),
-        load_end: word(kernel.load.end),
-        extent_end: word(kernel.extent().end),
+        start: word(kernel.start),
+        load_end: word(kernel.load_end),
+        extent_end: word(kernel.extent_end),
     };
-    let mut modules = [Extent::default(); MAX_MODULES];
+    let mut modules = [plan::Span::default(); MAX_MODULES];
     for (slot, &span) in modules.iter_mut().zip(&placed.modules) {
-        *slot = extent(span);
+        *slot = word_span(span);
     }
     Plan {
         header_offset: word(kernel.header_offset.0),
         entry: kernel.entry,
         eax: BOOT_MAGIC,
         ebx: word(placed.block.start),
-        block: extent(placed.block),
+        block: word_span(placed.block),
         segments,
         modules,
     }
 }
 
-fn extent(span: Span) -> Extent {
-    Extent { start: word(span.start), end: word(span.end) }
+/// A span of a load as words.
+fn word_span(span: Span) -> plan::Span {
+    plan::Span { start: word(span.start), end: word(span.end) }
 }
 
 /// A number of a load as a word: all of them lie within the window, so below 2^32.
