@@ -5,7 +5,7 @@ use crate::case::Case;
 use crate::compare::{run, Outcome};
 use crate::limits::{
     ADDRESS_SPACE, FLOOR, HEADER_MAGIC, MAX_LINE, MAX_MAP, MAX_MEM_LOWER, MAX_MODULES, MAX_PAIRS,
-    MAX_STRING, MIN_PAIR_SIZE, TOP, USABLE, WORD,
+    MAX_STRING, MIN_PAIR_SIZE, RAM, TOP, WORD,
 };
 use crate::naive::Board;
 use crate::offsets::{header, structure};
@@ -168,7 +168,7 @@ impl OnBoard<'_> {
     }
 
     fn reserved_over_usable(&self) -> bool {
-        let reserved = |p: &&Pair| p.kind != USABLE && p.length > 0;
+        let reserved = |p: &&Pair| p.kind != RAM && p.length > 0;
         let usable = || self.pairs.iter().filter(|p| is_usable(p));
         self.pairs.iter().filter(reserved).any(|r| usable().any(|u| overlap(u, r)))
     }
@@ -186,7 +186,7 @@ impl OnBoard<'_> {
     /// Does the answer change once each usable pair and the window end a byte later?
     fn one_byte_short(&self) -> bool {
         let mut longer = self.pairs.to_vec();
-        for pair in longer.iter_mut().filter(|pair| pair.kind == USABLE) {
+        for pair in longer.iter_mut().filter(|pair| pair.kind == RAM) {
             pair.length = pair.length.saturating_add(1);
         }
         let mut more = Case { map: map_bytes(&longer), ..self.case.clone() };
@@ -196,7 +196,7 @@ impl OnBoard<'_> {
 }
 
 fn is_usable(pair: &Pair) -> bool {
-    pair.kind == USABLE && pair.length > 0
+    pair.kind == RAM && pair.length > 0
 }
 
 fn overlap(a: &Pair, b: &Pair) -> bool {

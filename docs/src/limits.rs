@@ -25,8 +25,8 @@ pub const MAX_MAP: usize = 4096;
 pub const MAX_PAIRS: usize = 32;
 /// The least value of a pair's size field: base, length and type.
 pub const MIN_PAIR_SIZE: usize = 20;
-/// The type of a pair that is usable if no other pair denies it.
-pub const USABLE: u32 = 1;
+/// The type of a pair whose addresses are usable where no pair of another type bars them.
+pub const RAM: u32 = 1;
 /// The low memory of the review program's board.
 pub const LOW_MEMORY: u64 = 0x9_FC00;
 
@@ -64,7 +64,7 @@ pub const STRUCTURE: u64 = 88;
 pub const MODULE_ENTRY: u64 = 16;
 /// The loader's name, without its final zero.
 pub const LOADER_NAME: &[u8] = b"shelf 1";
-/// The addresses that one unit of mem_lower and mem_upper stands for.
-pub const MEM_UNIT: u64 = 1024;
+/// The addresses of a KiB, in which mem_lower and mem_upper count.
+pub const KIB: u64 = 1024;
 /// The greatest value of mem_lower.
 pub const MAX_MEM_LOWER: u64 = 640;

@@ -2,7 +2,7 @@
 //! quick only for small ones. It shares no code with the second loader's placing.
 
 use crate::case::Case;
-use crate::limits::{ADDRESS_SPACE, FLOOR, MAX_MEM_LOWER, MEM_UNIT, USABLE};
+use crate::limits::{ADDRESS_SPACE, FLOOR, KIB, MAX_MEM_LOWER, RAM};
 use crate::pair::{pairs, Pair};
 use crate::plan::{Item, Refusal};
 use std::ops::Range;
@@ -21,17 +21,17 @@ impl Board {
 
     /// About how many times a pair is asked about an address in all questions together.
     pub fn cost(&self) -> u128 {
-        let usable = self.pairs.iter().filter(|pair| pair.kind == USABLE);
+        let ram = self.pairs.iter().filter(|pair| pair.kind == RAM);
         let longest = u128::from(ADDRESS_SPACE);
-        let walk: u128 = usable.map(|pair| longest.min(pair.length.into())).sum();
+        let walk: u128 = ram.map(|pair| longest.min(pair.length.into())).sum();
         let window = u128::from(self.window.end - self.window.start);
         (walk + window) * self.pairs.len() as u128
     }
 
     fn usable(&self, address: u64) -> bool {
         let covers = |pair: &Pair| pair.covers(address);
-        let mut ram = self.pairs.iter().filter(|pair| pair.kind == USABLE);
-        let mut other = self.pairs.iter().filter(|pair| pair.kind != USABLE);
+        let mut ram = self.pairs.iter().filter(|pair| pair.kind == RAM);
+        let mut other = self.pairs.iter().filter(|pair| pair.kind != RAM);
         address < ADDRESS_SPACE && ram.any(covers) && !other.any(covers)
     }
 
@@ -42,7 +42,7 @@ impl Board {
     /// mem_lower and mem_upper.
     pub fn memory_sizes(&self) -> (u64, u64) {
         let run = |from: u64| (from..).take_while(|&a| self.usable(a)).count() as u64;
-        ((run(0) / MEM_UNIT).min(MAX_MEM_LOWER), run(FLOOR) / MEM_UNIT)
+        ((run(0) / KIB).min(MAX_MEM_LOWER), run(FLOOR) / KIB)
     }
 
     /// The starts of the modules and of the block, or the refusal from 15 on that applies.

@@ -2,7 +2,7 @@
 
 use crate::case::Case;
 use crate::compare::run;
-use crate::limits::{FLOOR, LOW_MEMORY, USABLE};
+use crate::limits::{FLOOR, LOW_MEMORY, RAM};
 use crate::pair::{map_bytes, Pair};
 use crate::plan::{Loader, Plan, Words};
 use crate::second::submission::Submission;
@@ -14,7 +14,7 @@ const WINDOW: usize = 48 * 1024;
 
 /// The review program's map: usable low memory and 7 MiB from 1 MiB up.
 pub fn pairs() -> [Pair; 2] {
-    [Pair::new(0, LOW_MEMORY, USABLE), Pair::new(FLOOR, 0x70_0000, USABLE)]
+    [Pair::new(0, LOW_MEMORY, RAM), Pair::new(FLOOR, 0x70_0000, RAM)]
 }
 
 /// A submission on the review program's board, its window all zeros.

@@ -5,7 +5,7 @@ use viertompu_host::bytes::{put_u32, u32_at};
 use viertompu_host::case::Case;
 use viertompu_host::compare::{run, same, sound, NaiveView, Outcome};
 use viertompu_host::generate::draft::pattern;
-use viertompu_host::limits::{FLOOR, USABLE};
+use viertompu_host::limits::{FLOOR, RAM};
 use viertompu_host::offsets::structure;
 use viertompu_host::pair::{map_bytes, Pair};
 use viertompu_host::plan::{Loader, Plan, Refusal, Words};
@@ -130,7 +130,7 @@ fn neither_finds_fault_with_the_second_itself() {
 
 #[test]
 fn every_byte_and_word_of_a_load_is_read() {
-    let memory = [Pair::new(0, 0x1000, USABLE), Pair::new(FLOOR, 0x2000, USABLE)];
+    let memory = [Pair::new(0, 0x1000, RAM), Pair::new(FLOOR, 0x2000, RAM)];
     let case = Case {
         operator: b"line".to_vec(),
         map: map_bytes(&memory),

@@ -9,8 +9,8 @@ use viertompu_host::case::Case;
 use viertompu_host::compare::others;
 use viertompu_host::generate::draft::{pattern, Draft, Header, Module};
 use viertompu_host::limits::{
-    ADDRESS_FIELDS, FLOOR, FULL_HEADER, LOW_MEMORY, MAX_MODULES, MAX_PAIRS, PAGE_ALIGNED,
-    SEARCH_LIMIT, USABLE,
+    ADDRESS_FIELDS, FLOOR, FULL_HEADER, LOW_MEMORY, MAX_MODULES, MAX_PAIRS, PAGE_ALIGNED, RAM,
+    SEARCH_LIMIT,
 };
 use viertompu_host::pair::Pair;
 use viertompu_host::plan::Plan;
@@ -70,12 +70,12 @@ fn case() -> Case {
     draft.case("speed".to_string())
 }
 
-/// Low memory, then the window's memory in regions that abut.
+/// Low memory, then the window's memory in pairs that abut.
 fn map() -> Vec<Pair> {
     let count = MAX_PAIRS as u64 - 1;
     let length = 8 * MIB as u64 / count + 1;
-    let part = |index: u64| Pair::new(FLOOR + index * length, length, USABLE);
-    let mut pairs = vec![Pair::new(0, LOW_MEMORY, USABLE)];
+    let part = |index: u64| Pair::new(FLOOR + index * length, length, RAM);
+    let mut pairs = vec![Pair::new(0, LOW_MEMORY, RAM)];
     pairs.extend((0..count).map(part));
     pairs
 }

@@ -1,6 +1,6 @@
 //! Boards: a map, a window and a load address for a kernel and items of known lengths.
 
-use crate::limits::{ADDRESS_SPACE, FLOOR, LOW_MEMORY, PAGE, TOP, USABLE};
+use crate::limits::{ADDRESS_SPACE, FLOOR, LOW_MEMORY, PAGE, RAM, TOP};
 use crate::pair::Pair;
 use crate::plan::Item;
 use crate::rng::Rng;
@@ -56,7 +56,7 @@ struct Region {
 /// A usable region of the exact length for the kernel and for each item; one of them may be off by
 /// a byte.
 pub fn fitted(rng: &mut Rng, needs: &Needs) -> Board {
-    let mut regions = lay_out(rng, needs);
+    let mut regions = regions(rng, needs);
     let kernel = regions.iter().find(|region| region.is_kernel);
     let load_addr = kernel.expect("the kernel has a region").start;
     let window = around(rng, &regions);
@@ -66,7 +66,7 @@ pub fn fitted(rng: &mut Rng, needs: &Needs) -> Board {
     }
     let mut pairs = match rng.below(3) {
         0 => wide_with_gaps(rng, &regions),
-        _ => regions.iter().map(|r| pair_of(r.start, r.end, USABLE)).collect(),
+        _ => regions.iter().map(|r| pair_of(r.start, r.end, RAM)).collect(),
     };
     pad(rng, &mut pairs, needs.pairs, &window);
     Board { pairs, load_addr, window }
@@ -77,7 +77,7 @@ fn pair_of(start: u64, end: u64, kind: u32) -> Pair {
 }
 
 /// The regions in rising order, mostly that of placing.
-fn lay_out(rng: &mut Rng, needs: &Needs) -> Vec<Region> {
+fn regions(rng: &mut Rng, needs: &Needs) -> Vec<Region> {
     let kernel_boundary = rng.pick(&[1, 1, 4, PAGE]);
     let kernel = Item { length: needs.kernel, boundary: kernel_boundary };
     let mut wanted = vec![(kernel, true)];
@@ -107,10 +107,10 @@ fn trim(rng: &mut Rng, region: &mut Region) {
     }
 }
 
-/// One usable region over all of them, and reserved ones over the gaps between them.
+/// One usable pair over all of them, and reserved ones over the gaps between them.
 fn wide_with_gaps(rng: &mut Rng, regions: &[Region]) -> Vec<Pair> {
     let (low, high) = (regions[0].start, regions[regions.len() - 1].end);
-    let mut pairs = vec![pair_of(low, high, USABLE)];
+    let mut pairs = vec![pair_of(low, high, RAM)];
     for two in regions.windows(2) {
         if two[0].end < two[1].start {
             pairs.push(pair_of(two[0].end, two[1].start, rng.pick(&RESERVED)));
@@ -136,7 +136,7 @@ fn around(rng: &mut Rng, regions: &[Region]) -> Range<u64> {
     window
 }
 
-/// One usable region with room for everything, and little else.
+/// One usable pair with room for everything, and little else.
 pub fn roomy(rng: &mut Rng, needs: &Needs) -> Board {
     let room = needs.room() + rng.below(1000);
     let low = origin(rng, room + 3000);
@@ -144,7 +144,7 @@ pub fn roomy(rng: &mut Rng, needs: &Needs) -> Board {
     let lead = rng.pick(&[0, 0, 1, 4, 100, room / 2]);
     let base = low.saturating_sub(rng.below(2000));
     let beyond = rng.pick(&[0, 1, 500, 0x70_0000, ADDRESS_SPACE, u64::MAX - window.end]);
-    let mut pairs = vec![pair_of(base, window.end + beyond, USABLE)];
+    let mut pairs = vec![pair_of(base, window.end + beyond, RAM)];
     if needs.pairs > 1 && rng.one_in(3) {
         let at = low + rng.below(room);
         pairs.push(Pair::new(at, rng.below(20), rng.pick(&RESERVED)));
@@ -156,13 +156,13 @@ pub fn roomy(rng: &mut Rng, needs: &Needs) -> Board {
 /// A window from 0 on to behind 1 MiB, with usable memory at both ends.
 pub fn from_zero(rng: &mut Rng, needs: &Needs) -> Board {
     let high = needs.room() + rng.below(1000);
-    let mut pairs = vec![Pair::new(0, LOW_MEMORY, USABLE), Pair::new(FLOOR, high, USABLE)];
+    let mut pairs = vec![Pair::new(0, LOW_MEMORY, RAM), Pair::new(FLOOR, high, RAM)];
     let window = 0..FLOOR + high;
     pad(rng, &mut pairs, needs.pairs, &window);
     Board { pairs, load_addr: rng.pick(&[0, 0x7C00, FLOOR]), window }
 }
 
-/// Regions of all kinds thrown over a window, which may be empty.
+/// Pairs of all kinds thrown over a window, which may be empty.
 pub fn scattered(rng: &mut Rng, needs: &Needs) -> Board {
     let length = match rng.below(20) {
         0 => 0,
@@ -171,20 +171,19 @@ pub fn scattered(rng: &mut Rng, needs: &Needs) -> Board {
     };
     let low = origin(rng, length + 3000);
     let window = low..low + length;
-    let mut pairs = vec![Pair::new(low, length, USABLE)];
+    let mut pairs = vec![Pair::new(low, length, RAM)];
     while pairs.len() < needs.pairs {
         let base = (low + rng.below(length + 400)).saturating_sub(200);
         let reach = rng.pick(&[1, 16, 300, length + 1]);
         let reserved = rng.pick(&RESERVED);
-        let kind = rng.pick(&[USABLE, USABLE, reserved]);
+        let kind = rng.pick(&[RAM, RAM, reserved]);
         pairs.push(Pair::new(base, rng.below(reach + 1), kind));
     }
     rng.shuffle(&mut pairs);
     Board { pairs, load_addr: low + rng.below(length / 2 + 1), window }
 }
 
-/// Brings the pairs to their count: splits regions and adds some far from the window, then
-/// shuffles.
+/// Brings the pairs to their count: splits some and adds some far from the window, then shuffles.
 fn pad(rng: &mut Rng, pairs: &mut Vec<Pair>, count: usize, window: &Range<u64>) {
     while pairs.len() < count {
         if rng.one_in(3) {
@@ -197,7 +196,7 @@ fn pad(rng: &mut Rng, pairs: &mut Vec<Pair>, count: usize, window: &Range<u64>) 
     rng.shuffle(pairs);
 }
 
-/// Splits a region into two that abut or overlap.
+/// Splits a pair into two that abut or overlap.
 fn split(rng: &mut Rng, pairs: &mut Vec<Pair>) {
     let index = rng.below(pairs.len() as u64) as usize;
     let whole = pairs[index];
@@ -211,13 +210,13 @@ fn split(rng: &mut Rng, pairs: &mut Vec<Pair>) {
     });
 }
 
-/// A region that is empty or lies elsewhere, but that wrapped or shortened sums may bring into
-/// the window.
+/// A pair that is empty or lies elsewhere, but that wrapped or shortened sums may bring into the
+/// window.
 fn far_pair(rng: &mut Rng, window: &Range<u64>) -> Pair {
     let length = window.end.saturating_sub(window.start);
-    let kind = rng.pick(&[USABLE, 2, 3]);
+    let kind = rng.pick(&[RAM, 2, 3]);
     match rng.below(10) {
-        0..=3 => Pair::new(0, low_memory(rng), USABLE),
+        0..=3 => Pair::new(0, low_memory(rng), RAM),
         4 => Pair::new(u64::MAX, 2, kind),
         5 => Pair::new(u64::MAX - 4095, 4096 + rng.below(window.end + 2), kind),
         6 => Pair::new(ADDRESS_SPACE + window.start, length, kind),
@@ -227,7 +226,7 @@ fn far_pair(rng: &mut Rng, window: &Range<u64>) -> Pair {
     }
 }
 
-/// Lengths of low memory around whole units and around the cap of 640.
+/// Lengths of low memory around whole KiB and around the limit of 640.
 fn low_memory(rng: &mut Rng) -> u64 {
     match rng.below(8) {
         0..=3 => rng.below(4000),

@@ -198,7 +198,7 @@ fn text(rng: &mut Rng, most: usize) -> Vec<u8> {
     rng.text(length as usize)
 }
 
-/// The sizes of a map's pairs, enough of them for a region for each item.
+/// The sizes of a map's pairs, enough of them for the kernel and each item to have one.
 fn pair_sizes(rng: &mut Rng, modules: usize) -> Vec<u32> {
     let least = modules as u64 + 3;
     let count = match rng.below(24) {

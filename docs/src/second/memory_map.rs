@@ -3,14 +3,14 @@
 use super::spans::{Span, SpanSet};
 use crate::bytes::{u32_at, u64_at};
 use crate::limits::{
-    ADDRESS_SPACE, FLOOR, MAX_MAP, MAX_MEM_LOWER, MAX_PAIRS, MEM_UNIT, MIN_PAIR_SIZE, USABLE,
+    ADDRESS_SPACE, FLOOR, KIB, MAX_MAP, MAX_MEM_LOWER, MAX_PAIRS, MIN_PAIR_SIZE, RAM,
 };
 use crate::plan::Refusal;
 
 /// A pair's region, cut off at 2^32.
 struct Region {
     span: Span,
-    usable: bool,
+    is_ram: bool,
 }
 
 /// A sound map, with its bytes as lent.
@@ -19,10 +19,10 @@ pub struct MemoryMap<'a> {
     regions: Vec<Region>,
 }
 
-/// A start or an end of regions: how the counts of usable and other regions change there.
+/// A start or an end of regions: how the counts of RAM and other regions change there.
 struct Edge {
-    at: u64,
-    usable: i32,
+    address: u64,
+    ram: i32,
     other: i32,
 }
 
@@ -47,17 +47,17 @@ impl<'a> MemoryMap<'a> {
     /// The usable addresses, by a sweep over the edges of all regions.
     pub fn usable(&self) -> SpanSet {
         let mut edges: Vec<Edge> = self.regions.iter().flat_map(Region::edges).collect();
-        edges.sort_by_key(|edge| edge.at);
+        edges.sort_by_key(|edge| edge.address);
         let mut set = SpanSet::default();
-        let (mut usable, mut other) = (0, 0);
+        let (mut ram, mut other) = (0, 0);
         let mut begun = None;
-        for together in edges.chunk_by(|a, b| a.at == b.at) {
-            usable += together.iter().map(|edge| edge.usable).sum::<i32>();
+        for together in edges.chunk_by(|a, b| a.address == b.address) {
+            ram += together.iter().map(|edge| edge.ram).sum::<i32>();
             other += together.iter().map(|edge| edge.other).sum::<i32>();
-            let end = together[0].at;
+            let end = together[0].address;
             match begun {
-                None if usable > 0 && other == 0 => begun = Some(end),
-                Some(start) if usable == 0 || other > 0 => {
+                None if ram > 0 && other == 0 => begun = Some(end),
+                Some(start) if ram == 0 || other > 0 => {
                     set.append(Span { start, end });
                     begun = None;
                 }
@@ -79,27 +79,27 @@ fn read_pair(bytes: &[u8]) -> Option<(Region, &[u8])> {
     let end = base + u128::from(u64_at(pair, 8));
     let clipped = |address: u128| address.min(u128::from(ADDRESS_SPACE)) as u64;
     let span = Span { start: clipped(base), end: clipped(end) };
-    let usable = u32_at(pair, 16) == USABLE;
-    Some((Region { span, usable }, rest))
+    let is_ram = u32_at(pair, 16) == RAM;
+    Some((Region { span, is_ram }, rest))
 }
 
 impl Region {
     fn edges(&self) -> [Edge; 2] {
-        let edge = |at: u64, step: i32| Edge {
-            at,
-            usable: if self.usable { step } else { 0 },
-            other: if self.usable { 0 } else { step },
+        let edge = |address: u64, step: i32| Edge {
+            address,
+            ram: if self.is_ram { step } else { 0 },
+            other: if self.is_ram { 0 } else { step },
         };
         [edge(self.span.start, 1), edge(self.span.end, -1)]
     }
 }
 
-/// mem_lower: the usable addresses in a row from 0 on, in whole units.
+/// mem_lower: the usable addresses in a row from 0 on, in whole KiB.
 pub fn mem_lower(usable: &SpanSet) -> u64 {
-    (usable.run_from(0) / MEM_UNIT).min(MAX_MEM_LOWER)
+    (usable.run_from(0) / KIB).min(MAX_MEM_LOWER)
 }
 
-/// mem_upper: the usable addresses in a row from 1 MiB on, in whole units.
+/// mem_upper: the usable addresses in a row from 1 MiB on, in whole KiB.
 pub fn mem_upper(usable: &SpanSet) -> u64 {
-    usable.run_from(FLOOR) / MEM_UNIT
+    usable.run_from(FLOOR) / KIB
 }
