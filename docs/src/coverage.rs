@@ -1,4 +1,4 @@
-//! How often each number came, and each edge that the inputs are made to reach.
+//! How often each number came, and each goal of the inputs was reached.
 
 use crate::bytes::u32_at;
 use crate::case::Case;
@@ -17,7 +17,7 @@ use std::fmt;
 use std::ops::Range;
 
 /// Something that inputs are made to reach, and whether this one does.
-type Edge = (&'static str, bool);
+type Goal = (&'static str, bool);
 
 #[derive(Default)]
 pub struct Coverage {
@@ -27,8 +27,8 @@ pub struct Coverage {
     loads: BTreeMap<usize, u64>,
     /// refusals for want of room by the module's index
     items: BTreeMap<u32, u64>,
-    /// how often each edge was reached, also 0 once a case of its kind came
-    edges: BTreeMap<&'static str, u64>,
+    /// how often each goal was reached, also 0 once a case of its kind came
+    goals: BTreeMap<&'static str, u64>,
 }
 
 impl Coverage {
@@ -40,7 +40,7 @@ impl Coverage {
             *self.items.entry(item).or_default() += 1;
         }
         match second::examine(case) {
-            Err(Refusal::BadOperatorLine) => self.count(line_edges(&case.operator)),
+            Err(Refusal::BadOperatorLine) => self.count(line_goals(&case.operator)),
             Err(_) => {}
             Ok(examined) => self.record_board(case, &examined, outcome),
         }
@@ -49,17 +49,17 @@ impl Coverage {
     /// Records a case that passes checks 1 to 14.
     fn record_board(&mut self, case: &Case, examined: &Examined, outcome: &Outcome) {
         let pairs = pairs(&case.map);
-        self.count(OnBoard { case, examined, pairs: &pairs, outcome }.edges());
+        self.count(OnBoard { case, examined, pairs: &pairs, outcome }.goals());
         if let Some(plan) = &Plan::of_words(&outcome.words) {
             let board = Board::of(case);
-            self.count(Load { case, examined, pairs: &pairs, board, plan, outcome }.edges());
+            self.count(Load { case, examined, pairs: &pairs, board, plan, outcome }.goals());
             *self.loads.entry(examined.submission.modules.len()).or_default() += 1;
         }
     }
 
-    fn count(&mut self, edges: Vec<Edge>) {
-        for (edge, reached) in edges {
-            *self.edges.entry(edge).or_default() += u64::from(reached);
+    fn count(&mut self, goals: Vec<Goal>) {
+        for (goal, reached) in goals {
+            *self.goals.entry(goal).or_default() += u64::from(reached);
         }
     }
 
@@ -82,8 +82,8 @@ impl Coverage {
         for index in 0..MAX_MODULES as u32 {
             demand(format!("no room for module {index}"), self.items.get(&index));
         }
-        for (edge, count) in &self.edges {
-            demand(edge.to_string(), Some(count));
+        for (goal, count) in &self.goals {
+            demand(goal.to_string(), Some(count));
         }
         let unreachable = |number: &&u32| !reachable_numbers().any(|n| n == **number);
         let strays = self.numbers.keys().filter(unreachable);
@@ -100,15 +100,15 @@ impl fmt::Display for Coverage {
         }
         writeln!(f, "  loads by modules: {:?}", self.loads)?;
         writeln!(f, "  refusals 16 by item: {:?}", self.items)?;
-        for (edge, count) in &self.edges {
-            writeln!(f, "  {edge}: {count}")?;
+        for (goal, count) in &self.goals {
+            writeln!(f, "  {goal}: {count}")?;
         }
         Ok(())
     }
 }
 
-/// Edges of an operator's line that is refused.
-fn line_edges(line: &[u8]) -> Vec<Edge> {
+/// Goals of an operator's line that is refused.
+fn line_goals(line: &[u8]) -> Vec<Goal> {
     vec![
         ("operator's line of 256 bytes", line.len() == MAX_LINE + 1),
         ("operator's line with a zero byte", line.len() <= MAX_LINE && line.contains(&0)),
@@ -124,7 +124,7 @@ struct OnBoard<'a> {
 }
 
 impl OnBoard<'_> {
-    fn edges(&self) -> Vec<Edge> {
+    fn goals(&self) -> Vec<Goal> {
         let Range { start: first, end } = self.case.addresses();
         let kernel = &self.examined.kernel;
         let inside = first <= kernel.start && kernel.extent_end <= end;
@@ -214,7 +214,7 @@ struct Load<'a> {
 }
 
 impl Load<'_> {
-    fn edges(&self) -> Vec<Edge> {
+    fn goals(&self) -> Vec<Goal> {
         let (kernel, operator) = (&self.examined.kernel, &self.case.operator);
         let first = self.case.addresses().start;
         let own_line = !self.examined.submission.command_line.is_empty();

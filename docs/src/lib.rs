@@ -10,7 +10,7 @@
 //! - [`case`], [`generate`]: one input of a loader, and seeded inputs without end
 //! - [`bench_cases`]: the bench cases of the rules with what they must give
 //! - [`compare`]: runs loaders on a case and tells where they differ
-//! - [`coverage`]: how often each number and each edge came
+//! - [`coverage`]: how often each number came and each goal was reached
 //! - [`review`]: what the review program prints for a submission
 //! - [`proved`]: the proved loader behind the same function type (feature `proved`)
 

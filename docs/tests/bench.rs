@@ -1,6 +1,6 @@
-//! The rules' bench cases and edges through every loader.
+//! The rules' bench cases and the answers' borders through every loader.
 
-use viertompu_host::bench_cases::{bench, edges, BenchCase};
+use viertompu_host::bench_cases::{bench, borders, BenchCase};
 use viertompu_host::case::Case;
 use viertompu_host::compare::{others, run, same, sound, NaiveView, Outcome};
 use viertompu_host::generate::draft::Header;
@@ -40,13 +40,13 @@ fn bench_cases_give_what_the_rules_name() {
 }
 
 #[test]
-fn edges_give_what_the_rules_name() {
-    check_all(&edges());
+fn borders_give_what_the_rules_name() {
+    check_all(&borders());
 }
 
 #[test]
 fn every_number_has_a_case() {
-    let cases: Vec<BenchCase> = bench().into_iter().chain(edges()).collect();
+    let cases: Vec<BenchCase> = bench().into_iter().chain(borders()).collect();
     for number in reachable_numbers() {
         let has = cases.iter().any(|case| case.words[0] == number);
         assert!(has, "no case for {number}");

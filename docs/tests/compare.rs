@@ -1,8 +1,8 @@
 //! Generated inputs through the second loader, held against the address-by-address model on small
 //! boards, against a reading of the finished load, and against every other loader there is.
 //!
-//! Prints how often each number and each edge came, and fails where one came too rarely or two
-//! answers differ.
+//! Prints how often each number came and each goal was reached, and fails where that is too rare
+//! or two answers differ.
 //! `VIERTOMPU_SEED` and `VIERTOMPU_CASES` choose another run.
 
 use std::collections::BTreeMap;

@@ -1,5 +1,5 @@
-//! Seeded inputs: sound ones on boards of all kinds, edges, and damaged ones. A case depends on
-//! its seed and index alone.
+//! Seeded inputs: sound ones on boards of all kinds, nudged ones and damaged ones. A case depends
+//! on its seed and index alone.
 
 mod board;
 mod damage;
