@@ -26,15 +26,15 @@ pub fn run(loader: Loader, case: &Case) -> Outcome {
 /// Says where two outcomes of a case first differ.
 pub fn same(case: &Case, one: &Outcome, other: &Outcome) -> Result<(), String> {
     if one.words != other.words {
-        let pairs = one.words.iter().zip(&other.words);
-        let at = pairs.take_while(|(a, b)| a == b).count();
-        let (a, b) = (one.words[at], other.words[at]);
-        return Err(format!("word {at} is {a:08X} and {b:08X}"));
+        let both = one.words.iter().zip(&other.words);
+        let index = both.take_while(|(a, b)| a == b).count();
+        let (a, b) = (one.words[index], other.words[index]);
+        return Err(format!("word {index} is {a:08X} and {b:08X}"));
     }
     if one.window != other.window {
-        let pairs = one.window.iter().zip(&other.window);
-        let at = pairs.take_while(|(a, b)| a == b).count();
-        let address = u64::from(case.first) + at as u64;
+        let both = one.window.iter().zip(&other.window);
+        let offset = both.take_while(|(a, b)| a == b).count();
+        let address = u64::from(case.first) + offset as u64;
         return Err(format!("the windows differ at address {address:08X}"));
     }
     Ok(())

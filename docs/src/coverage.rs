@@ -217,7 +217,7 @@ impl Load<'_> {
     fn goals(&self) -> Vec<Goal> {
         let (kernel, operator) = (&self.examined.kernel, &self.case.operator);
         let first = self.case.addresses().start;
-        let own_line = !self.examined.submission.command_line.is_empty();
+        let own_line = !self.examined.submission.line.is_empty();
         let load_end_addr = self.header_word(header::LOAD_END_ADDR);
         let bss_end_addr = self.header_word(header::BSS_END_ADDR);
         let whole = |span: &Span| self.begins_region(span) && self.ends_region(span);

@@ -98,7 +98,7 @@ impl<'a> Load<'a> {
     /// The command line in force.
     fn command_line(&self) -> &'a [u8] {
         if self.case.operator.is_empty() {
-            self.submission.command_line
+            self.submission.line
         } else {
             &self.case.operator
         }

@@ -3,7 +3,7 @@
 //!
 //! - [`limits`], [`offsets`]: the numbers of the rules, and where the fields of the formats stand
 //! - [`bytes`], [`pair`], [`rng`]: little-endian numbers, map pairs, seeded random numbers
-//! - [`plan`]: what a loader answers, as types and as 96 words
+//! - [`plan`]: what a loader decides, as types and as 96 words
 //! - [`second`]: the second loader; it places items by sets of spans
 //! - [`naive`]: usable, open and placing decided one address at a time, for small boards
 //! - [`handover`]: reads a finished load as a kernel would, and finds every byte accounted for

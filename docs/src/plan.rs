@@ -1,9 +1,9 @@
-//! What a loader answers: a plan or a refusal, as types and as 96 words.
+//! What a loader decides: a plan or a refusal, as types and as 96 words.
 
 use crate::case::Case;
 use crate::limits::{MAX_MODULES, MAX_SEGMENTS};
 
-/// The words of an answer.
+/// The words of a decision.
 ///
 /// 0 number, 1 item, 2 header offset, 3 entry, 4 EAX, 5 EBX, 6 and 7 the information block's
 /// start and end, 8 to 55 sixteen segments (start, load end, extent end), 56 to 87 sixteen modules
@@ -96,7 +96,7 @@ pub enum Refusal {
     NoRoomForBlock,
 }
 
-pub type Answer = Result<Plan, Refusal>;
+pub type Decision = Result<Plan, Refusal>;
 
 /// The numbers that some input gives. None gives 11: the header found lies in the image, and not
 /// before the load offset.
@@ -183,9 +183,9 @@ impl Plan {
     }
 }
 
-/// The words of an answer.
-pub fn words(answer: &Answer) -> Words {
-    match answer {
+/// The words of a decision.
+pub fn words(decision: &Decision) -> Words {
+    match decision {
         Ok(plan) => plan.words(),
         Err(refusal) => refusal.words(),
     }

@@ -12,8 +12,8 @@ fn meets(bench: &BenchCase, outcome: &Outcome) -> Result<(), String> {
     let expected = Outcome { words: bench.words, window: outcome.window.clone() };
     same(&bench.case, outcome, &expected)?;
     for (address, bytes) in &bench.memory {
-        let at = (address - bench.case.first) as usize;
-        if outcome.window[at..at + bytes.len()] != bytes[..] {
+        let offset = (address - bench.case.first) as usize;
+        if outcome.window[offset..offset + bytes.len()] != bytes[..] {
             return Err(format!("other bytes at {address:08X}"));
         }
     }

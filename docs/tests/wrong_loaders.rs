@@ -44,8 +44,8 @@ fn lists_all_but_the_first_module(case: &Case, window: &mut [u8]) -> Words {
 fn clears_a_byte_behind_the_bss(case: &Case, window: &mut [u8]) -> Words {
     let words = second::load(case, window);
     if let Some(plan) = Plan::of_words(&words) {
-        let end = (plan.segments[0].extent_end - case.first) as usize;
-        if let Some(byte) = window.get_mut(end) {
+        let offset = (plan.segments[0].extent_end - case.first) as usize;
+        if let Some(byte) = window.get_mut(offset) {
             *byte = 0;
         }
     }
@@ -56,8 +56,8 @@ fn clears_a_byte_behind_the_bss(case: &Case, window: &mut [u8]) -> Words {
 fn invents(field: usize, case: &Case, window: &mut [u8]) -> Words {
     let words = second::load(case, window);
     if let Some(plan) = Plan::of_words(&words) {
-        let at = (plan.block.start - case.first) as usize + field;
-        put_u32(window, at, u32_at(window, at).wrapping_add(1));
+        let offset = (plan.block.start - case.first) as usize + field;
+        put_u32(window, offset, u32_at(window, offset).wrapping_add(1));
     }
     words
 }

@@ -17,7 +17,7 @@ use viertompu_host::plan::Plan;
 use viertompu_host::second::{self, submission::Submission};
 
 const MIB: usize = 1 << 20;
-const HEADER: usize = SEARCH_LIMIT - FULL_HEADER;
+const HEADER_OFFSET: usize = SEARCH_LIMIT - FULL_HEADER;
 const MODULE: usize = 64 * 1024;
 const BSS: u32 = 64 * 1024;
 const ROUNDS: usize = 51;
@@ -27,10 +27,10 @@ fn main() {
     let mut window = case.window.clone();
     let words = second::load(&case, &mut window);
     let plan = Plan::of_words(&words).expect("the case is a load");
-    let parts = parts(&case, &plan, &window);
-    let written: usize = parts.iter().map(|(_, bytes)| bytes.len()).sum();
+    let writes = writes(&case, &plan, &window);
+    let written: usize = writes.iter().map(|(_, bytes)| bytes.len()).sum();
     println!("{written} bytes written, median and least of {ROUNDS} rounds");
-    report("plain copy", written, || copy(&parts, &mut window));
+    report("plain copy", written, || copy(&writes, &mut window));
     report("second", written, || {
         black_box(second::load(&case, &mut window));
     });
@@ -52,9 +52,9 @@ fn case() -> Case {
     let draft = Draft {
         filler: pattern(0, 4 * MIB),
         header: Header {
-            offset: HEADER,
+            offset: HEADER_OFFSET,
             flags: ADDRESS_FIELDS | PAGE_ALIGNED,
-            header_addr: load_addr + HEADER as u32,
+            header_addr: load_addr + HEADER_OFFSET as u32,
             load_addr,
             bss_end_addr: load_end + BSS,
             entry_addr: load_addr,
@@ -81,26 +81,26 @@ fn map() -> Vec<Pair> {
 }
 
 /// What a load writes: where in the window, and the bytes.
-fn parts(case: &Case, plan: &Plan, loaded: &[u8]) -> Vec<(usize, Vec<u8>)> {
+fn writes(case: &Case, plan: &Plan, loaded: &[u8]) -> Vec<(usize, Vec<u8>)> {
     let submission = Submission::read(&case.submission).expect("the case is a load");
-    let at = |address: u32| (address - case.first) as usize;
+    let offset = |address: u32| (address - case.first) as usize;
     let segment = plan.segments[0];
-    let (load_end, extent_end) = (at(segment.load_end), at(segment.extent_end));
-    let mut parts = vec![
-        (at(segment.start), submission.image.to_vec()),
+    let (load_end, extent_end) = (offset(segment.load_end), offset(segment.extent_end));
+    let mut writes = vec![
+        (offset(segment.start), submission.image.to_vec()),
         (load_end, vec![0; extent_end - load_end]),
     ];
     for (module, span) in submission.modules.iter().zip(&plan.modules) {
-        parts.push((at(span.start), module.data.to_vec()));
+        writes.push((offset(span.start), module.data.to_vec()));
     }
-    let (start, end) = (at(plan.block.start), at(plan.block.end));
-    parts.push((start, loaded[start..end].to_vec()));
-    parts
+    let (start, end) = (offset(plan.block.start), offset(plan.block.end));
+    writes.push((start, loaded[start..end].to_vec()));
+    writes
 }
 
-fn copy(parts: &[(usize, Vec<u8>)], window: &mut [u8]) {
-    for (at, bytes) in parts {
-        window[*at..at + bytes.len()].copy_from_slice(black_box(bytes));
+fn copy(writes: &[(usize, Vec<u8>)], window: &mut [u8]) {
+    for (offset, bytes) in writes {
+        window[*offset..offset + bytes.len()].copy_from_slice(black_box(bytes));
     }
     black_box(window);
 }

@@ -54,14 +54,14 @@ pub struct Module {
     pub string: Vec<u8>,
 }
 
-/// Mark and version.
-pub fn mark() -> Vec<u8> {
+/// A submission's first five bytes.
+pub fn mark_and_version() -> Vec<u8> {
     [MARK, &VERSION.to_le_bytes()].concat()
 }
 
 /// A submission's bytes.
 pub fn submission(image: &[u8], line: &[u8], modules: &[Module]) -> Vec<u8> {
-    let mut bytes = mark();
+    let mut bytes = mark_and_version();
     bytes.push(modules.len() as u8);
     bytes.extend_from_slice(&(image.len() as u32).to_le_bytes());
     bytes.extend_from_slice(&(line.len() as u16).to_le_bytes());

@@ -76,12 +76,13 @@ fn sound(rng: &mut Rng, make: MakeBoard) -> Draft {
     let item = |module: &Module| Item { length: module.data.len() as u64, boundary };
     let mut items: Vec<_> = modules.iter().map(item).collect();
     items.push(Item { length: block_length(&sizes, in_force, &modules), boundary: WORD });
-    let needs = Needs { kernel: shape.load + shape.bss.unwrap_or(0), items, pairs: sizes.len() };
+    let needs =
+        Needs { kernel: shape.load_length + shape.bss.unwrap_or(0), items, pairs: sizes.len() };
     let board = make(rng, &needs);
     Draft {
-        filler: filler(rng, shape.image),
+        filler: filler(rng, shape.image_length),
         header: shape.header(flags, board.load_addr),
-        decoys: decoys(rng, shape.offset),
+        decoys: decoys(rng, shape.header_offset),
         modules,
         line,
         operator,
@@ -99,11 +100,11 @@ fn sized(pairs: &[Pair], sizes: &[u32]) -> Vec<Pair> {
 
 /// The lengths and offsets of a kernel, before it has an address.
 struct KernelShape {
-    image: usize,
-    offset: usize,
+    image_length: usize,
+    header_offset: usize,
     /// how far before the header the load begins
     back: u64,
-    load: u64,
+    load_length: u64,
     end_given: bool,
     bss: Option<u64>,
     entry: u64,
@@ -112,7 +113,7 @@ struct KernelShape {
 impl KernelShape {
     fn new(rng: &mut Rng) -> Self {
         let last = (SEARCH_LIMIT - FULL_HEADER) as u64;
-        let offset = match rng.below(24) {
+        let header_offset = match rng.below(24) {
             0..=7 => 0,
             8..=20 => 4 * rng.below(16),
             21 => 4 * rng.below(500),
@@ -120,30 +121,30 @@ impl KernelShape {
             _ => 4 * rng.below(last / 4 + 1),
         };
         let some = rng.below(300);
-        let behind = rng.pick(&[0, 0, 1, 8, some / 4, some, LONG_IMAGE as u64 - offset]);
-        let image = offset + FULL_HEADER as u64 + behind;
-        let part = rng.below(offset + 1);
-        let back = rng.pick(&[offset, offset, 0, part]);
-        let most = image - (offset - back);
+        let behind = rng.pick(&[0, 0, 1, 8, some / 4, some, LONG_IMAGE as u64 - header_offset]);
+        let image_length = header_offset + FULL_HEADER as u64 + behind;
+        let part = rng.below(header_offset + 1);
+        let back = rng.pick(&[header_offset, header_offset, 0, part]);
+        let most = image_length - (header_offset - back);
         let part = 1 + rng.below(most);
-        let load = rng.pick(&[most, most, part]);
-        let within = rng.below(load);
+        let load_length = rng.pick(&[most, most, part]);
+        let within = rng.below(load_length);
         let some = rng.below(3000);
         KernelShape {
-            image: image as usize,
-            offset: offset as usize,
+            image_length: image_length as usize,
+            header_offset: header_offset as usize,
             back,
-            load,
-            end_given: load < most || rng.one_in(2),
+            load_length,
+            end_given: load_length < most || rng.one_in(2),
             bss: rng.pick(&[None, None, Some(0), Some(1), Some(some / 20), Some(some)]),
-            entry: rng.pick(&[0, load - 1, within]),
+            entry: rng.pick(&[0, load_length - 1, within]),
         }
     }
 
     fn header(&self, flags: u32, load_addr: u64) -> Header {
-        let load_end = load_addr + self.load;
+        let load_end = load_addr + self.load_length;
         Header {
-            offset: self.offset,
+            offset: self.header_offset,
             flags,
             header_addr: (load_addr + self.back) as u32,
             load_addr: load_addr as u32,

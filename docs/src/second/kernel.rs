@@ -91,14 +91,14 @@ fn find_header(image: &[u8]) -> Option<ImageOffset> {
 
 impl AddressFields {
     /// The fields behind the flags and the checksum (checks 7 to 9).
-    fn read(image: &[u8], offset: ImageOffset, flags: u32) -> Result<Self, Refusal> {
+    fn read(image: &[u8], header_offset: ImageOffset, flags: u32) -> Result<Self, Refusal> {
         if flags & UNKNOWN_REQUESTS != 0 {
             return Err(Refusal::UnknownRequest);
         }
         if flags & ADDRESS_FIELDS == 0 {
             return Err(Refusal::NoAddressFields);
         }
-        let at = offset.0 as usize;
+        let at = header_offset.0 as usize;
         if at + FULL_HEADER > SEARCH_LIMIT || at + FULL_HEADER > image.len() {
             return Err(Refusal::HeaderCutOff);
         }

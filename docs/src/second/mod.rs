@@ -11,7 +11,7 @@ pub mod submission;
 
 use crate::case::Case;
 use crate::limits::{BOOT_MAGIC, MAX_LINE, MAX_MODULES, MAX_SEGMENTS, PAGE, TOP, WORD};
-use crate::plan::{self, Answer, Item, Plan, Refusal, Segment, Words};
+use crate::plan::{self, Decision, Item, Plan, Refusal, Segment, Words};
 use block::Block;
 use kernel::Kernel;
 use memory_map::MemoryMap;
@@ -21,12 +21,12 @@ use submission::Submission;
 
 /// Loads the case into the window, or refuses and leaves the window as it was.
 pub fn load(case: &Case, window: &mut [u8]) -> Words {
-    let answer: Answer = examine(case).and_then(|examined| {
+    let decision: Decision = examine(case).and_then(|examined| {
         let placed = place(&examined)?;
         write(&examined, &placed, window);
         Ok(plan_of(&examined, &placed))
     });
-    plan::words(&answer)
+    plan::words(&decision)
 }
 
 /// What is to be loaded: everything known before the kernel meets the board.
@@ -51,7 +51,7 @@ pub fn examine(case: &Case) -> Result<Examined<'_>, Refusal> {
     let map = MemoryMap::read(&case.map)?;
     let kernel = Kernel::read(submission.image)?;
     let command_line = match &case.operator[..] {
-        [] => submission.command_line,
+        [] => submission.line,
         operator => operator,
     };
     Ok(Examined { kernel, submission, command_line, map, window: Span { start, end } })

@@ -8,7 +8,7 @@ use crate::plan::Refusal;
 /// A submission's parts, each a part of the lent bytes.
 pub struct Submission<'a> {
     pub image: &'a [u8],
-    pub command_line: &'a [u8],
+    pub line: &'a [u8],
     pub modules: Vec<Module<'a>>,
 }
 
@@ -39,10 +39,10 @@ impl<'a> Submission<'a> {
         }
         let table = cut(&mut rest, count * TABLE_ENTRY)?;
         let image = cut(&mut rest, image_length)?;
-        let command_line = cut_text(&mut rest, line_length)?;
+        let line = cut_text(&mut rest, line_length)?;
         let entries = table.chunks_exact(TABLE_ENTRY);
         let modules: Option<_> = entries.map(|entry| cut_module(&mut rest, entry)).collect();
-        rest.is_empty().then_some(Submission { image, command_line, modules: modules? })
+        rest.is_empty().then_some(Submission { image, line, modules: modules? })
     }
 }
 
