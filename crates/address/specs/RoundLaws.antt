@@ -1,5 +1,6 @@
 -- Rounding up gives the lowest multiple of the boundary that is not below the address, for every boundary above 0.
 --     Rounded, rounded    what rounding gives, and that it does
+--     boundary-some       every boundary is above 0 and at most a page
 -- Assumes nothing.
 use mathlib.Core.Path.{_≡_, refl, ap, _∙_}
 use mathlib.Core.Bool.{Bool, true, false}
@@ -7,7 +8,7 @@ use Prim.Native.Nat.{ℕ, _+_, _-_, _*_, _/_, _%_, _≤_, _<_}
 use native.Mathlib.Nat.{div-add-mod', mod-lt, mod-self, mul-add-mod-self-right, lt-of-mul-lt-mul-right, mul-le-mul-right, suc-mul}
 use native.Mathlib.Omega.{arith}
 use borrow.Author.Tests.{eqb-true, eqb-false}
-use Rattle.address.specs.Address.{isMultiple, roundUp}
+use Rattle.address.specs.Address.{page, boundaryOf, isMultiple, roundUp}
 
 -- r is the lowest multiple of b that is not below a
 pub record Rounded (a b r : ℕ) : Type 0 where
@@ -43,3 +44,7 @@ module _ (a b : ℕ) (pos : 0 < b) where
 
 pub rounded : (a b : ℕ) → 0 < b → Rounded a b (roundUp a b)
 rounded a b pos = by-test a b pos (isMultiple b a) refl
+
+pub boundary-some : (pages : Bool) → (0 < boundaryOf pages) × (boundaryOf pages ≤ page)
+boundary-some true = (omega arith, omega arith)
+boundary-some false = (omega arith, omega arith)

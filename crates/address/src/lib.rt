@@ -30,7 +30,7 @@ impl PhysAddr {
     pub const TOP: u64 = 0xFFFFF000;
 
     // The boundary of an item: the page size where pages are asked for, else four bytes.
-    pub fn boundary(pages: bool) -> u64
+    fn boundary(pages: bool) -> u64
         ensures { λ r. ⌜ r ≡ boundaryOf pages ⌝ }
     {
         if pages {
@@ -41,10 +41,11 @@ impl PhysAddr {
     }
 
     // The lowest multiple of the boundary that is not below the address.
-    pub fn round_up(self, boundary: u64) -> PhysAddr
-        requires { ⌜ (0 < boundary) × (roundUp (self .0) boundary < 2 ^ 64) ⌝ }
-        ensures { λ r. ⌜ r .0 ≡ roundUp (self .0) boundary ⌝ }
+    pub fn round_up(self, pages: bool) -> PhysAddr
+        requires { ⌜ roundUp (self .0) (boundaryOf pages) < 2 ^ 64 ⌝ }
+        ensures { λ r. ⌜ r .0 ≡ roundUp (self .0) (boundaryOf pages) ⌝ }
     {
+        let boundary = PhysAddr::boundary(pages);
         let rest = self.0 % boundary;
         if rest == 0 {
             self
@@ -54,11 +55,10 @@ impl PhysAddr {
     }
 
     // The lowest multiple of the boundary from the floor up.
-    pub fn lowest(boundary: u64) -> PhysAddr
-        requires { ⌜ (0 < boundary) × (roundUp floor boundary < 2 ^ 64) ⌝ }
-        ensures { λ r. ⌜ r .0 ≡ roundUp floor boundary ⌝ }
+    pub fn lowest(pages: bool) -> PhysAddr
+        ensures { λ r. ⌜ r .0 ≡ roundUp floor (boundaryOf pages) ⌝ }
     {
-        PhysAddr(PhysAddr::FLOOR).round_up(boundary)
+        PhysAddr(PhysAddr::FLOOR).round_up(pages)
     }
 
     // How many addresses there are from `base` up to the address; none where it is not above.

@@ -19,7 +19,7 @@ use native.Mathlib.Omega.{arith}
 use borrow.Author.Tests.{eqb-true, not-true}
 use lib.Dec.{eqb}
 use lib.ListN.{length}
-use Rattle.laws.specs.Checks.{Check, _gives_, firstOf, passes}
+use Rattle.laws.specs.Checks.{Check, firstOf, passes, _gives_}
 use Rattle.laws.specs.CheckLaws.{passes-on}
 use Rattle.laws.specs.TestLaws.{and-left, and-right}
 use Rattle.answer.specs.Answer.{numberOf, isLoad, orElse}

@@ -6,11 +6,11 @@ ghost use Rattle.submission.specs.Format.{maxModules};
 ghost use Rattle.block.specs.Block.{textSize, stringsOffset, PartsStand, stringLengths, blockLength};
 
 // The bytes of the structure, of a module's entry, and of the loader's name with its zero.
-pub const STRUCTURE: usize = 88;
+pub(crate) const STRUCTURE: usize = 88;
 
-pub const MODULE_ENTRY: usize = 16;
+pub(crate) const MODULE_ENTRY: usize = 16;
 
-pub const NAME: usize = 8;
+pub(crate) const NAME: usize = 8;
 
 // Where the parts behind the modules' entries stand, counted from the block's first byte.
 pub struct Offsets {
@@ -21,7 +21,7 @@ pub struct Offsets {
 }
 
 // The bytes of a text of n bytes with its zero; an empty text has none.
-pub fn text_size(n: usize) -> usize
+pub(crate) fn text_size(n: usize) -> usize
     requires { ⌜ textSize n < 2 ^ 64 ⌝ }
     ensures { λ r. ⌜ r ≡ textSize n ⌝ }
 {
@@ -32,7 +32,7 @@ pub fn text_size(n: usize) -> usize
 }
 
 // Where the parts stand in a block with `count` modules, a map of `extent` bytes and a command line of `text` bytes.
-pub fn part_offsets(count: usize, map_length: usize, line_length: usize) -> Offsets
+pub(crate) fn part_offsets(count: usize, map_length: usize, line_length: usize) -> Offsets
     requires { ⌜ stringsOffset count «map_length» «line_length» < 2 ^ 64 ⌝ }
     ensures { λ r. ⌜ PartsStand count «map_length» «line_length» r ⌝ }
 {

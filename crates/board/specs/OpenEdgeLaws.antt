@@ -2,25 +2,24 @@
 --     open-edge-is, open-edge-at    the edge of the board is an edge of the open addresses, by name and as a call hands it over
 -- Assumes nothing.
 use mathlib.Core.Path.{_≡_}
-use Prim.Native.Nat.{ℕ, _≤_, _<_}
+use Prim.Native.Nat.{ℕ, _<_}
 use native.Mathlib.Omega.{arith}
 use borrow.Author.Tests.{lt-ltb}
 use Rattle.address.specs.Address.{inside}
 use Rattle.edge.specs.Edge.{nearest}
 use Rattle.edge.specs.EdgeLaws.{Edge, nearest-is}
-use Rattle.usable.specs.Usable.{addressSpace}
 use Rattle.usable.specs.MapEdgeLaws.{map-edge-is}
 use Rattle.board.specs.declared.Board.{Board}
 use Rattle.board.specs.Open.{isOpen}
 use Rattle.board.specs.OpenEdge.{openEdge}
 
-module _ (b : Board) (x : ℕ) (l : x < b .window .end .0) (small : b .window .end .0 ≤ addressSpace) where
+module _ (b : Board) (x : ℕ) (l : x < b .window .end .0) where
   pub open-edge-is : Edge (isOpen b) x (b .window .end .0) (openEdge b x)
   unfolding isOpen openEdge inside
   open-edge-is =
       let e : ℕ = b .window .end .0 in
       let p = nearest-is x e (b .window .start .0) l in
-      let q = map-edge-is (b .map) x (nearest x e (b .window .start .0)) (p .past) (omega arith) in
+      let q = map-edge-is (b .map) x (nearest x e (b .window .start .0)) (p .past) in
       record {
         past = q .past;
         near = omega arith;

@@ -3,10 +3,9 @@ use address::PhysAddr;
 use address::Span;
 use memory_map::MemMap;
 ghost use mathlib.Core.Path.{_≡_};
-ghost use Prim.Native.Nat.{_-_, _≤_};
+ghost use Prim.Native.Nat.{_-_};
 ghost use Rattle.laws.specs.Tests.{allFrom};
-ghost use Rattle.memory_map.specs.Pairs.{maxPairs};
-ghost use Rattle.board.specs.Open.{isOpen, Checked};
+ghost use Rattle.board.specs.Open.{isOpen};
 ghost use Rattle.board.specs.OpenEdge.{openEdge};
 
 pub mod window;
@@ -19,7 +18,6 @@ pub struct Board {
 
 // Whether the address is open: usable and inside the window.
 pub fn is_open(board: Board, a: PhysAddr) -> bool
-    requires { ⌜ board .map .count ≤ maxPairs ⌝ }
     ensures { λ r. ⌜ r ≡ isOpen board (a .0) ⌝ }
 {
     if !board.window.contains(a) {
@@ -30,7 +28,6 @@ pub fn is_open(board: Board, a: PhysAddr) -> bool
 
 // The nearest edge of the window or a pair past x, at most the window's end: up to it all addresses are open, or none is.
 pub fn open_edge(board: Board, x: PhysAddr) -> PhysAddr
-    requires { ⌜ board .map .count ≤ maxPairs ⌝ }
     ensures { λ r. ⌜ r .0 ≡ openEdge board (x .0) ⌝ }
 {
     let e = edge::nearer(x, board.window.end, board.window.start);
@@ -39,7 +36,6 @@ pub fn open_edge(board: Board, x: PhysAddr) -> PhysAddr
 
 // Whether every address of the span is open.
 pub fn all_open(board: Board, span: Span) -> bool
-    requires { ⌜ Checked board ⌝ }
     ensures { λ r. ⌜ r ≡ allFrom (isOpen board) (span .start .0) (span .end .0 - span .start .0) ⌝ }
 {
     let mut x = span.start;

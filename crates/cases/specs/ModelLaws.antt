@@ -13,7 +13,6 @@ use Rattle.decision.specs.Lent.{Lent, layoutIn, kernelIn, boardIn, blockLengthI
 use Rattle.items.specs.LoadItems.{extentsOf, itemsOf}
 use Rattle.decision.specs.Decided.{kernelChecks, roomChecks, placedBy, planOf, decidedBy}
 use Rattle.decision.specs.Decision.{lentChecks, checks, placedIn, decisionOf}
-use Rattle.items.specs.LoadItemsLaws.{items-bounded}
 use Rattle.cases.specs.WalkLaws.{computedFrom, items-compute}
 
 unfoldable pub modelIn : Lent → Placed
@@ -31,7 +30,7 @@ modelDecision x = decisionWith x (modelIn x)
 module _ (x : Lent) (small : x .first + x .size + page ≤ addressSpace) where
   placed-computes : placedIn x ≡ modelIn x
   unfolding placedBy modelIn itemsOf
-  placed-computes = items-compute (boardIn x) (itemsOf (layoutIn x) (kernelIn x .pages) (blockLengthIn x)) small (items-bounded (layoutIn x) (kernelIn x .pages) (blockLengthIn x)) (extentsOf (kernelIn x))
+  placed-computes = items-compute (boardIn x) (itemsOf (layoutIn x) (kernelIn x .pages) (blockLengthIn x)) small (extentsOf (kernelIn x))
 
   decision-with : decisionOf x ≡ decisionWith x (placedIn x)
   unfolding decisionOf checks decisionWith

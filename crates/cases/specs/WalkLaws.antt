@@ -5,12 +5,12 @@
 use mathlib.Core.Path.{_≡_, refl, sym}
 use mathlib.Core.Bool.{true, false, cond}
 use mathlib.Core.Logic.{⊎-elim}
-use Prim.Native.Nat.{ℕ, zero, suc, _+_, _-_, _≤_, _<_}
+use Prim.Native.Nat.{ℕ, zero, suc, _+_, _-_, _≤_}
 use native.Mathlib.Omega.{arith}
 use borrow.Author.Tests.{lt-ltb, le-ltb, le-leb, lt-leb}
 use lib.Dec.{leb, ltb}
 use Rattle.laws.specs.TestLaws.{true-or-false, lt-or-le}
-use Rattle.address.specs.Address.{floor, page, roundUp}
+use Rattle.address.specs.Address.{floor, page, roundUp, boundaryOf}
 use Rattle.usable.specs.Usable.{addressSpace}
 use Rattle.board.specs.declared.Board.{Board}
 use Rattle.board.specs.Open.{isOpen}
@@ -24,7 +24,6 @@ use Rattle.placement.specs.Free.{isFree}
 use Rattle.placement.specs.FreeEdge.{freeEdge}
 use Rattle.placement.specs.Lowest.{lowestPlace}
 use Rattle.placement.specs.Order.{itemNo, spanOf, withSpan, after, placedFrom, placeItems}
-use Rattle.placement.specs.Ready.{Bounded}
 use Rattle.placement.specs.StepLaws.{Walked, step-start, step-on, step-past, step-found, step-end}
 
 module _ (b : Board) (t : Spans) (q : Item) where
@@ -34,41 +33,41 @@ module _ (b : Board) (t : Spans) (q : Item) where
   walk (suc k) a x =
       let e = freeEdge b t x in
       let on = walk k a e in
-      let past = walk k (roundUp e (q .boundary)) (roundUp e (q .boundary)) in
+      let past = walk k (roundUp e (boundaryOf (q .pages))) (roundUp e (boundaryOf (q .pages))) in
       cond (ltb (x - a) (q .length)) (cond (leb (b .window .end .0) x) NoRoom (cond (isFree (isOpen b) t x) on past)) (At (record { 0 = a }))
 
   unfoldable pub computed : Place
-  computed = walk (b .window .end .0) (roundUp floor (q .boundary)) (roundUp floor (q .boundary))
+  computed = walk (b .window .end .0) (roundUp floor (boundaryOf (q .pages))) (roundUp floor (boundaryOf (q .pages)))
 
-  module _ (small : b .window .end .0 + page ≤ addressSpace) (bounded : Bounded q) where
+  module _ (small : b .window .end .0 + page ≤ addressSpace) where
     walk-is : (k a x : ℕ) → b .window .end .0 ≤ x + k → Walked b t q a x → walk k a x ≡ lowestPlace (isOpen b) t q
     unfolding walk
     walk-is zero a x l w =
         ⊎-elim
-        (λ s. rw (lt-ltb (x - a) (q .length) s) (step-end b t q small bounded a x w s (omega arith)))
-        (λ s. rw (le-ltb (x - a) (q .length) s) (step-found b t q small bounded a x w s))
+        (λ s. rw (lt-ltb (x - a) (q .length) s) (step-end b t q small a x w s (omega arith)))
+        (λ s. rw (le-ltb (x - a) (q .length) s) (step-found b t q small a x w s))
         (lt-or-le (x - a) (q .length))
     walk-is (suc k) a x l w =
         let e : ℕ = freeEdge b t x in
-        let r : ℕ = roundUp e (q .boundary) in
+        let r : ℕ = roundUp e (boundaryOf (q .pages)) in
         ⊎-elim
         (λ s. ⊎-elim
         (λ i. ⊎-elim
         (λ (f : isFree (isOpen b) t x ≡ true).
-        let n = step-on b t q small bounded a x e w i refl f in
+        let n = step-on b t q small a x e w i refl f in
         rw (lt-ltb (x - a) (q .length) s, lt-leb (b .window .end .0) x i, f) (walk-is k a e (omega arith) (n .1)))
         (λ (f : isFree (isOpen b) t x ≡ false).
-        let n = step-past b t q small bounded a x e w i refl r s f refl in
+        let n = step-past b t q small a x e w i refl r s f refl in
         rw (lt-ltb (x - a) (q .length) s, lt-leb (b .window .end .0) x i, f) (walk-is k r r (omega arith) (n .1)))
         (true-or-false (isFree (isOpen b) t x)))
-        (λ i. rw (lt-ltb (x - a) (q .length) s, le-leb (b .window .end .0) x i) (step-end b t q small bounded a x w s i))
+        (λ i. rw (lt-ltb (x - a) (q .length) s, le-leb (b .window .end .0) x i) (step-end b t q small a x w s i))
         (lt-or-le x (b .window .end .0)))
-        (λ s. rw (le-ltb (x - a) (q .length) s) (step-found b t q small bounded a x w s))
+        (λ s. rw (le-ltb (x - a) (q .length) s) (step-found b t q small a x w s))
         (lt-or-le (x - a) (q .length))
 
     pub place-computes : lowestPlace (isOpen b) t q ≡ computed
     unfolding computed
-    place-computes = sym (walk-is (b .window .end .0) _ _ (omega arith) (step-start b t q small bounded _ refl))
+    place-computes = sym (walk-is (b .window .end .0) _ _ (omega arith) (step-start b t q small _ refl))
 
 module _ (b : Board) (q : Items) where
   unfoldable pub computedFrom : ℕ → ℕ → Spans → Placed
@@ -78,7 +77,7 @@ module _ (b : Board) (q : Items) where
       (λ a. computedFrom k (i + 1) (withSpan t (spanOf a (itemNo q i .length))))
       (record { spans = t; done = i })
 
-  module _ (small : b .window .end .0 + page ≤ addressSpace) (each : (i : ℕ) → i < q .count → Bounded (itemNo q i)) where
+  module _ (small : b .window .end .0 + page ≤ addressSpace) where
     after-same : (p : Place) (f g : _ → Placed) (s : Placed) → ((a : _) → f a ≡ g a) → after p f s ≡ after p g s
     after-same (At a) f g s h = h a
     after-same NoRoom f g s h = refl
@@ -87,7 +86,7 @@ module _ (b : Board) (q : Items) where
     unfolding placedFrom computedFrom
     from-computes zero i t l = refl
     from-computes (suc k) i t l =
-        rw (place-computes b t (itemNo q i) small (each i (omega arith)))
+        rw (place-computes b t (itemNo q i) small)
         (after-same (computed b t (itemNo q i)) _ _ _ (λ a. from-computes k (i + 1) (withSpan t (spanOf a (itemNo q i .length))) (omega arith)))
 
     pub items-compute : (t : Spans) → placeItems (isOpen b) t q ≡ computedFrom (q .count) 0 t

@@ -9,7 +9,7 @@ use lib.Dec.{ltb}
 use lib.ListN.{length}
 use Rattle.answer.specs.declared.Answer.{Answer}
 use Rattle.answer.specs.declared.Answer.the-variants.{BadOperatorLine}
-use Rattle.laws.specs.Checks.{Check, _gives_, passes}
+use Rattle.laws.specs.Checks.{Check, passes, _gives_}
 use Rattle.submission.specs.Scan.{hasZero}
 use Rattle.submission.specs.Format.{linePart, bytesOf}
 use Rattle.submission.specs.Rules.{maxLine, submissionChecks}

@@ -11,7 +11,7 @@ use Prim.Native.Nat.{ℕ, _+_, _-_}
 use lib.Dec.{ltb}
 use lib.ListN.{replicate}
 use Rattle.laws.specs.Tests.{allFrom}
-use Rattle.laws.specs.Checks.{Check, _gives_, firstOf}
+use Rattle.laws.specs.Checks.{Check, firstOf, _gives_}
 use Rattle.answer.specs.Answer.{isLoad}
 use Rattle.answer.specs.declared.Answer.{Answer}
 use Rattle.answer.specs.declared.Answer.the-variants.{Load, KernelNotOpen, NoRoomForModule, NoRoomForBlock}

@@ -138,7 +138,7 @@ module _ (x : Lent) (p : LentPassed x) where
   unfolding firstPairs
   prepared =
       record {
-        checked = record { pairs = good-map (x .map) (p .map) .few; top = p .window };
+        window = p .window;
         segments = omega (arith, good-kernel (imageIn x) (p .image) .one);
         modules = count-small;
         bytes = λ i l.
@@ -180,7 +180,7 @@ module _ (x : Lent) (b : Board) (k : Kernel) (l : Layout) (n : ℕ) (be : b ≡ 
   prepared-is p =
       let q = prepared x p in
       record {
-        checked = record { pairs = rw be (q .checked .pairs); top = rw be (q .checked .top) };
+        window = rw be (q .window);
         segments = rw ke (q .segments);
         modules = rw le (q .modules);
         bytes = rw le (q .bytes);

@@ -9,40 +9,39 @@ use Prim.Native.Nat.{ℕ, _+_, _≤_, _<_, _^_}
 use native.Mathlib.Omega.{arith}
 use lib.ListN.{length}
 use Rattle.laws.specs.TableLaws.{length-table}
-use Rattle.address.specs.Address.{noSpan, spanNo}
+use Rattle.address.specs.Address.{noSpan, spanNo, top}
 use Rattle.submission.specs.declared.Layout.{Layout}
 use Rattle.submission.specs.Format.{maxModules, moduleNo}
 use Rattle.image.specs.declared.Kernel.{Kernel}
 use Rattle.board.specs.declared.Board.{Board}
-use Rattle.board.specs.Open.{isOpen, Checked}
+use Rattle.board.specs.Open.{isOpen}
 use Rattle.board.specs.OpenLaws.{open-below}
 use Rattle.placement.specs.declared.Item.{Item}
 use Rattle.placement.specs.Free.{maxSpans}
 use Rattle.placement.specs.Order.{itemNo}
-use Rattle.placement.specs.Ready.{ReadyItems}
+use Rattle.placement.specs.Ready.{Ready}
 use Rattle.placement.specs.Placing.{InOrder}
 use Rattle.placement.specs.PlacingLaws.{board-in-order}
 use Rattle.image.specs.Judged.{maxSegments}
 use Rattle.items.specs.LoadItems.{extentNo, extentsOf, itemsOf}
-use Rattle.items.specs.LoadItemsLaws.{each-item, items-bounded}
+use Rattle.items.specs.LoadItemsLaws.{each-item}
 use Rattle.decision.specs.Decided.{placedBy}
 
 pub record Prepared (b : Board) (k : Kernel) (l : Layout) (size : ℕ) : Type 0 where
-  pub checked : Checked b
+  pub window : b .window .end .0 ≤ top
   pub segments : k .count ≤ maxSegments
   pub modules : l .count ≤ maxModules
   pub bytes : (i : ℕ) → i < l .count → 1 ≤ moduleNo l i .«data» .len
   pub block : 1 ≤ size
 
 module _ (b : Board) (k : Kernel) (l : Layout) (size : ℕ) (p : Prepared b k l size) where
-  pub items-ready : ReadyItems b (extentsOf k) (itemsOf l (k .pages) size)
+  pub items-ready : Ready b (extentsOf k) (itemsOf l (k .pages) size)
   unfolding itemsOf extentsOf
   items-ready =
       record {
-        checked = p .checked;
+        window = p .window;
         items = omega (arith, p .modules);
         spans = omega (arith, p .modules, p .segments);
-        each = items-bounded l (k .pages) size;
       }
 
   -- no item is empty

@@ -5,9 +5,10 @@ use board::Board;
 use image::Kernel;
 ghost use mathlib.Core.Path.{_≡_};
 ghost use Rattle.answer.specs.Answer.{orElse};
+ghost use Rattle.decision.specs.Lent.{lent};
 ghost use Rattle.decision.specs.Decision.{decisionOf};
 
-pub mod place;
+mod place;
 
 // Where everything of a load lies, and what is handed over besides the entry; past the last module the spans are zero.
 pub struct Plan {
@@ -32,7 +33,7 @@ pub fn decide<'a>(
     first: u32,
     size: usize,
 ) -> Decision
-    ensures { λ r. ⌜ r ≡ decisionOf (record { submission = now (submission .entry); operator = now (operator .entry); map = now (map .entry); first = first; size = size }) ⌝ }
+    ensures { λ r. ⌜ r ≡ decisionOf (lent (now (submission .entry)) (now (operator .entry)) (now (map .entry)) first size) ⌝ }
 {
     let read = submission::parse(submission);
     let layout = read.layout;

@@ -12,7 +12,6 @@ ghost use mathlib.Core.Path.{_≡_};
 ghost use Prim.Native.Nat.{_+_, _≤_, _<_, _^_};
 ghost use Rattle.laws.specs.Checks.{firstOf};
 ghost use Rattle.submission.specs.Format.{maxModules};
-ghost use Rattle.board.specs.Open.{Checked};
 ghost use Rattle.address.specs.Address.{spanNo};
 ghost use Rattle.placement.specs.Free.{maxSpans};
 ghost use Rattle.image.specs.Judged.{maxSegments};
@@ -24,7 +23,7 @@ const BOOT_MAGIC: u32 = 0x2BADB002;
 
 // Whether every address of the kernel's extents is open.
 fn kernel_open(board: Board, kernel: Kernel) -> bool
-    requires { ⌜ Checked board × (kernel .count ≤ maxSegments) ⌝ }
+    requires { ⌜ kernel .count ≤ maxSegments ⌝ }
     ensures { λ r. ⌜ r ≡ kernelOpen board kernel ⌝ }
 {
     let mut i = 0;
@@ -68,7 +67,7 @@ fn plan_of(kernel: Kernel, spans: Spans, n: usize) -> Plan
 }
 
 // A refusal has a plan of zeros.
-pub fn refuse(a: Answer) -> Decision
+pub(crate) fn refuse(a: Answer) -> Decision
     ensures { λ r. ⌜ r ≡ record { answer = a; plan = noPlan } ⌝ }
 {
     Decision {
@@ -84,7 +83,7 @@ pub fn refuse(a: Answer) -> Decision
 }
 
 // The decision on an accepted kernel with the modules of a submission and an information block of `size` bytes.
-pub fn decide_memory(board: Board, kernel: Kernel, layout: Layout, size: u64) -> Decision
+pub(crate) fn decide_memory(board: Board, kernel: Kernel, layout: Layout, size: u64) -> Decision
     requires { ⌜ Prepared board kernel layout size ⌝ }
     ensures { λ r. ⌜ r ≡ memoryDecision board kernel layout size ⌝ }
 {

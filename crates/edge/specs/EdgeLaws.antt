@@ -8,6 +8,7 @@ use mathlib.Core.Path.{_≡_, refl, sym, ap, _∙_}
 use mathlib.Core.Bool.{Bool, not, and-false}
 use mathlib.Core.Logic.{⊎-elim}
 use Prim.Native.Nat.{ℕ, zero, suc, _+_, _≤_, _<_}
+use native.Mathlib.Nat.{eq-or-lt-of-le}
 use native.Mathlib.Omega.{arith}
 use native.Mathlib.Numerals.{add-one}
 use borrow.Author.Tests.{le-leb, lt-leb, lt-ltb, le-ltb, leb-true, leb-false}
@@ -57,7 +58,22 @@ span-edge-is start end x e l =
       same = λ y u m. rw (p .same y u (omega arith), ltb-not y end, q .same y u m, ← ltb-not x end);
     }
 
+-- an empty span at 0 has no edge past an address
+empty-edge : (x e : ℕ) → spanEdge 0 0 x e ≡ e
+unfolding spanEdge nearest
+empty-edge x e = rw (le-ltb x 0 (omega arith))
+
 module _ (start end : ℕ → ℕ) (x e : ℕ) where
+  -- where all spans from n on are empty, the first n have the edges
+  pub edges-past : (n k : ℕ) → n ≤ k → ((i : ℕ) → n ≤ i → i < k → (start i ≡ 0) × (end i ≡ 0)) → edgeUpTo start end x e k ≡ edgeUpTo start end x e n
+  unfolding edgeUpTo
+  edges-past n zero l h = let z : n ≡ 0 = omega arith in rw z
+  edges-past n (suc k) l h =
+      ⊎-elim
+      (λ (z : n ≡ suc k). rw z)
+      (λ (m : n < suc k). rw (h k (omega arith) (omega arith) .0, h k (omega arith) (omega arith) .1, empty-edge) (edges-past n k (omega arith) (λ i u v. h i u (omega arith))))
+      (eq-or-lt-of-le l)
+
   pub edge-none : edgeUpTo start end x e 0 ≡ e
   unfolding edgeUpTo
   edge-none = refl

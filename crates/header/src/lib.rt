@@ -1,8 +1,7 @@
 // The search for a Multiboot header.
 use address::ImageOffset;
 ghost use mathlib.Core.Path.{_≡_};
-ghost use Prim.Native.Nat.{_+_, _≤_};
-ghost use lib.ListN.{length};
+ghost use Prim.Native.Nat.{_+_, _^_, _<_};
 ghost use Rattle.number.specs.Number.{numberAt};
 ghost use Rattle.header.specs.Header.{shortHeader, words, isHeader, headerFrom, header};
 
@@ -26,7 +25,7 @@ pub enum Search {
 
 // Whether a header's magic, flags and checksum stand at the offset `at`.
 fn is_header(s: &[u8], at: usize) -> bool
-    requires { ⌜ at + shortHeader ≤ length (now s) ⌝ }
+    requires { ⌜ at + shortHeader < 2 ^ 64 ⌝ }
     ensures { λ r. ⌜ r ≡ isHeader (numberAt 4 (now (s .entry)) at) (numberAt 4 (now (s .entry)) (at + 4)) (numberAt 4 (now (s .entry)) (at + 8)) ⌝ }
 {
     let magic = number::read_u32(s, at);

@@ -13,21 +13,21 @@ ghost use Rattle.image.specs.Load.{loadEnd};
 ghost use Rattle.image.specs.Judged.{unknownRequest, noAddresses, cutOff, nothingLeft, pastImage, bssBelow, entryOutside, loadChecks};
 
 // Whether any of flag bits 2 to 15 is set.
-pub fn unknown_request(flags: u32) -> bool
+pub(crate) fn unknown_request(flags: u32) -> bool
     ensures { λ r. ⌜ r ≡ unknownRequest flags ⌝ }
 {
     flags / 4 % 16384 != 0
 }
 
 // Whether flag bit 16 is clear.
-pub fn no_addresses(flags: u32) -> bool
+pub(crate) fn no_addresses(flags: u32) -> bool
     ensures { λ r. ⌜ r ≡ noAddresses flags ⌝ }
 {
     flags / 65536 % 2 == 0
 }
 
 // Whether the address fields of a header run past the searched part, or past the image of n bytes.
-pub fn cut_off(at: ImageOffset, n: usize) -> bool
+pub(crate) fn cut_off(at: ImageOffset, n: usize) -> bool
     ensures { λ r. ⌜ r ≡ cutOff (at .0) n ⌝ }
 {
     if header::SEARCH_LIMIT - load::FULL_HEADER < at.0 {
@@ -37,7 +37,7 @@ pub fn cut_off(at: ImageOffset, n: usize) -> bool
 }
 
 // The first of checks 11 to 14 that refuses a load of `len` bytes from the offset, of an image of n bytes.
-pub fn check_load(h: AddressFields, offset: ImageOffset, len: usize, n: usize) -> Answer
+pub(crate) fn check_load(h: AddressFields, offset: ImageOffset, len: usize, n: usize) -> Answer
     requires { ⌜ (offset .0 + len < 2 ^ 64) × (loadEnd h len < 2 ^ 64) ⌝ }
     ensures { λ r. ⌜ r ≡ firstOf (loadChecks h (offset .0) len n) Answer.Load ⌝ }
 {

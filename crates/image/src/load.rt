@@ -4,15 +4,14 @@ use address::PhysAddr;
 use header::Search;
 ghost use mathlib.Core.Path.{_≡_};
 ghost use mathlib.Core.Bool.{cond};
-ghost use Prim.Native.Nat.{_+_, _-_, _^_, _≤_, _<_, max};
-ghost use lib.ListN.{length};
+ghost use Prim.Native.Nat.{_+_, _-_, _^_, _<_, max};
 ghost use Rattle.number.specs.Number.{numberAt};
 ghost use Rattle.image.specs.Load.{onPages, fieldsAt, fullHeader, loadOffset, loadLength, loadEnd};
 ghost use Rattle.image.specs.Narrow.{Narrow};
 ghost use Rattle.image.specs.Judged.{beforeImage};
 
 // A header with its address fields.
-pub const FULL_HEADER: usize = 32;
+pub(crate) const FULL_HEADER: usize = 32;
 
 // The address fields of a header.
 pub struct AddressFields {
@@ -29,7 +28,7 @@ pub struct AddressFields {
 }
 
 // Whether the flags ask for page-aligned modules: bit 0.
-pub fn on_pages(flags: u32) -> bool
+pub(crate) fn on_pages(flags: u32) -> bool
     ensures { λ r. ⌜ r ≡ onPages flags ⌝ }
 {
     flags % 2 != 0
@@ -37,15 +36,14 @@ pub fn on_pages(flags: u32) -> bool
 
 // The address that stands at the offset `at`.
 fn read_address(image: &[u8], at: usize) -> PhysAddr
-    requires { ⌜ at + 4 ≤ length (now image) ⌝ }
     ensures { λ r. ⌜ (r ≡ record { 0 = numberAt 4 (now (image .entry)) at }) × (r .0 < 2 ^ 32) ⌝ }
 {
     PhysAddr(number::read_u32(image, at) as u64)
 }
 
 // The address fields of the header at the offset `at`.
-pub fn read_fields(image: &[u8], at: usize) -> AddressFields
-    requires { ⌜ at + fullHeader ≤ length (now image) ⌝ }
+pub(crate) fn read_fields(image: &[u8], at: usize) -> AddressFields
+    requires { ⌜ at + fullHeader < 2 ^ 64 ⌝ }
     ensures { λ r. ⌜ (r ≡ fieldsAt (now (image .entry)) at) × Narrow r ⌝ }
 {
     AddressFields {
@@ -59,7 +57,7 @@ pub fn read_fields(image: &[u8], at: usize) -> AddressFields
 
 // The load offset: as far before the header as load_addr is below header_addr, or nothing where that is before the image.
 // No other function goes between addresses and offsets.
-pub fn load_offset(h: AddressFields, header: ImageOffset) -> Search
+pub(crate) fn load_offset(h: AddressFields, header: ImageOffset) -> Search
     ensures { λ r. ⌜ r ≡ cond (beforeImage h (header .0)) Search.Nothing (Search.At (record { 0 = loadOffset h (header .0) })) ⌝ }
 {
     if h.header_addr.0 < h.load_addr.0 {
@@ -73,7 +71,7 @@ pub fn load_offset(h: AddressFields, header: ImageOffset) -> Search
 }
 
 // How many of the image's n bytes are loaded.
-pub fn load_length(h: AddressFields, offset: ImageOffset, n: usize) -> usize
+pub(crate) fn load_length(h: AddressFields, offset: ImageOffset, n: usize) -> usize
     ensures { λ r. ⌜ r ≡ loadLength h (offset .0) n ⌝ }
 {
     if h.load_end_addr.0 == 0 {
@@ -94,7 +92,7 @@ fn bytes_from(offset: ImageOffset, n: usize) -> usize
 }
 
 // Where the load ends.
-pub fn load_end(h: AddressFields, len: usize) -> PhysAddr
+pub(crate) fn load_end(h: AddressFields, len: usize) -> PhysAddr
     requires { ⌜ loadEnd h len < 2 ^ 64 ⌝ }
     ensures { λ r. ⌜ r ≡ record { 0 = loadEnd h len } ⌝ }
 {
@@ -102,7 +100,7 @@ pub fn load_end(h: AddressFields, len: usize) -> PhysAddr
 }
 
 // Where the kernel's extent ends: at the load end, or behind the bss.
-pub fn extent_end(h: AddressFields, loaded: PhysAddr) -> PhysAddr
+pub(crate) fn extent_end(h: AddressFields, loaded: PhysAddr) -> PhysAddr
     ensures { λ r. ⌜ r ≡ record { 0 = max (loaded .0) (h .«bss_end_addr» .0) } ⌝ }
 {
     if loaded.0 < h.bss_end_addr.0 {

@@ -9,7 +9,7 @@ use Prim.Native.Nat.{ℕ, _+_}
 use lib.Dec.{ltb}
 use Rattle.laws.specs.Table.{table}
 use Rattle.address.specs.declared.Span.{Span}
-use Rattle.address.specs.Address.{boundaryOf, noSpan, spanNo}
+use Rattle.address.specs.Address.{noSpan, spanNo}
 use Rattle.submission.specs.declared.Layout.{Layout}
 use Rattle.submission.specs.Format.{maxModules, moduleNo}
 use Rattle.image.specs.declared.Kernel.{Kernel}
@@ -31,8 +31,8 @@ extentsOf k = record { list = table (extentNo k) (k .count) maxSpans noSpan; cou
 unfoldable pub loadItem : Layout → Bool → ℕ → ℕ → Item
 loadItem l pages size i =
     cond (ltb i (l .count))
-    (record { length = moduleNo l i .«data» .len; boundary = boundaryOf pages })
-    (record { length = size; boundary = boundaryOf false })
+    (record { length = moduleNo l i .«data» .len; pages = pages })
+    (record { length = size; pages = false })
 
 unfoldable pub itemsOf : Layout → Bool → ℕ → Items
 itemsOf l pages size = record { list = table (loadItem l pages size) (l .count + 1) maxItems noItem; count = l .count + 1 }

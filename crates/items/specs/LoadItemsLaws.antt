@@ -1,9 +1,9 @@
 -- Laws of the items of a load.
 --     item-module, item-block, item-at    the item of an index is a module's, or the information block's
---     each-item, items-bounded            what holds of each item; that its boundary is one that an item may have
+--     each-item                           what holds of each item
 -- Assumes nothing.
 use mathlib.Core.Path.{_≡_}
-use mathlib.Core.Bool.{Bool, true, false}
+use mathlib.Core.Bool.{Bool, false}
 use mathlib.Core.Logic.{⊎-elim}
 use Prim.Native.Nat.{ℕ, _+_, _≤_, _<_}
 use native.Mathlib.Omega.{arith}
@@ -11,21 +11,19 @@ use borrow.Author.Tests.{lt-ltb, le-ltb}
 use lib.ListN.{length}
 use Rattle.laws.specs.TestLaws.{lt-or-le}
 use Rattle.laws.specs.TableLaws.{table-at}
-use Rattle.address.specs.Address.{boundaryOf}
 use Rattle.submission.specs.declared.Layout.{Layout}
 use Rattle.submission.specs.Format.{moduleNo}
 use Rattle.placement.specs.declared.Item.{Item}
 use Rattle.placement.specs.Order.{maxItems, itemNo, noItem}
-use Rattle.placement.specs.Ready.{Bounded}
 use Rattle.items.specs.LoadItems.{loadItem, itemsOf}
 
 module _ (l : Layout) (pages : Bool) (size : ℕ) where
   -- the item of an index is a module's, or the information block's
-  pub item-module : (i : ℕ) → i < l .count → loadItem l pages size i ≡ record { length = moduleNo l i .«data» .len; boundary = boundaryOf pages }
+  pub item-module : (i : ℕ) → i < l .count → loadItem l pages size i ≡ record { length = moduleNo l i .«data» .len; pages = pages }
   unfolding loadItem
   item-module i h = rw (lt-ltb i (l .count) h)
 
-  pub item-block : loadItem l pages size (l .count) ≡ record { length = size; boundary = boundaryOf false }
+  pub item-block : loadItem l pages size (l .count) ≡ record { length = size; pages = false }
   unfolding loadItem
   item-block = rw (le-ltb (l .count) (l .count) (omega arith))
 
@@ -33,14 +31,10 @@ module _ (l : Layout) (pages : Bool) (size : ℕ) where
   unfolding itemsOf
   item-at i h = table-at (loadItem l pages size) maxItems noItem (l .count + 1) i h
 
-bounded : (pages : Bool) (n : ℕ) → Bounded (record { length = n; boundary = boundaryOf pages })
-bounded true n = record { some = omega arith; most = omega arith }
-bounded false n = record { some = omega arith; most = omega arith }
-
 -- what holds of each module's item and of the information block's holds of each item
 pub each-item : (P : Item → Type 0) (l : Layout) (pages : Bool) (size : ℕ)
-    → ((i : ℕ) → i < l .count → P (record { length = moduleNo l i .«data» .len; boundary = boundaryOf pages }))
-    → P (record { length = size; boundary = boundaryOf false })
+    → ((i : ℕ) → i < l .count → P (record { length = moduleNo l i .«data» .len; pages = pages }))
+    → P (record { length = size; pages = false })
     → (i : ℕ) → i < itemsOf l pages size .count → P (itemNo (itemsOf l pages size) i)
 unfolding itemsOf
 each-item P l pages size m b i h =
@@ -49,7 +43,3 @@ each-item P l pages size m b i h =
     (λ (u : i < l .count). rw (item-module l pages size i u) (m i u))
     (λ (u : l .count ≤ i). let e : i ≡ l .count = omega arith in rw (e, item-block l pages size) b)
     (lt-or-le i (l .count)))
-
--- every item has a boundary that an item may have
-pub items-bounded : (l : Layout) (pages : Bool) (size i : ℕ) → i < itemsOf l pages size .count → Bounded (itemNo (itemsOf l pages size) i)
-items-bounded l pages size = each-item Bounded l pages size (λ i h. bounded pages (moduleNo l i .«data» .len)) (bounded false size)

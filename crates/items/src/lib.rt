@@ -45,7 +45,7 @@ pub fn items(layout: Layout, pages: bool, size: u64) -> Items
 {
     let none = Item {
         length: 0,
-        boundary: 0,
+        pages: false,
     };
     let mut list = [none; placement::MAX_ITEMS];
     let mut i = 0;
@@ -65,12 +65,12 @@ fn item(layout: Layout, pages: bool, size: u64, i: usize) -> Item
         let m = layout.modules[i];
         return Item {
             length: m.data.len as u64,
-            boundary: PhysAddr::boundary(pages),
+            pages,
         };
     }
     Item {
         length: size,
-        boundary: PhysAddr::boundary(false),
+        pages: false,
     }
 }
 

@@ -3,14 +3,14 @@
 --     or-none-left, or-none-right             neither of two tests passes
 --     and-left, and-right                     both of two tests pass
 --     any-here, any-at, any-none, none-any    some number passes, or none does
---     any-more, any-same                      one number more; tests that agree
+--     any-more, any-same, any-past            one number more; tests that agree; no number passes from n on
 --     all-intro, all-elim, all-not            each number passes, or one does not
 --     all-zero, all-more                      no number, and one number more
 --     run-is, run-says                        where a run ends
 -- Assumes nothing.
 use Prim.Native.Nat.{ℕ, zero, suc, _+_, _-_, _≤_, _<_}
 use mathlib.Core.Path.{_≡_, refl, sym, ap, _∙_}
-use mathlib.Core.Bool.{Bool, true, false, _&&_, _||_, or-true, false≢true}
+use mathlib.Core.Bool.{Bool, true, false, _&&_, _||_, or-true, or-false, false≢true}
 use mathlib.Core.Logic.{⊎-elim, _⊎_, inl, inr}
 use native.Mathlib.Nat.{eq-or-lt-of-le, le-of-suc-le-suc, add-zero}
 use native.Mathlib.Numerals.{add-one}
@@ -90,6 +90,13 @@ pub any-same : (f g : ℕ → Bool) (k : ℕ) → ((i : ℕ) → i < k → f i �
 unfolding any
 any-same f g zero h = refl
 any-same f g (suc k) h = rw (any-same f g k (λ i l. h i (omega arith)), h k (omega arith))
+
+-- where no number from n on passes, the first n decide
+pub any-past : (f : ℕ → Bool) (n k : ℕ) → n ≤ k → ((i : ℕ) → n ≤ i → i < k → f i ≡ false) → any f k ≡ any f n
+unfolding any
+any-past f n zero l h = let e : n ≡ 0 = omega arith in rw e
+any-past f n (suc k) l h =
+    ⊎-elim (λ (e : n ≡ suc k). rw e) (λ (m : n < suc k). rw (h k (omega arith) (omega arith), or-false) (any-past f n k (omega arith) (λ i u v. h i u (omega arith)))) (eq-or-lt-of-le l)
 
 module _ (f : ℕ → Bool) (a : ℕ) where
   pub all-intro : (n : ℕ) → ((y : ℕ) → a ≤ y → y < a + n → f y ≡ true) → allFrom f a n ≡ true

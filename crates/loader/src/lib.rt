@@ -2,10 +2,11 @@
 use decision::Decision;
 ghost use mathlib.Core.Path.{_≡_};
 ghost use lib.ListN.{length};
+ghost use Rattle.decision.specs.Lent.{lent};
 ghost use Rattle.decision.specs.Decision.{decisionOf};
 ghost use Rattle.loader.specs.Memory.{memoryAfter};
 
-pub mod write;
+mod write;
 
 // Loads a submission into the window, which stands for physical memory from the address `first` on, or refuses it.
 pub fn load<'a>(
@@ -15,8 +16,8 @@ pub fn load<'a>(
     window: &mut [u8],
     first: u32,
 ) -> Decision
-    ensures { λ r. ⌜ r ≡ decisionOf (record { submission = now (submission .entry); operator = now (operator .entry); map = now (map .entry); first = first; size = length (now (window .entry)) }) ⌝ }
-    ensures { λ _. ⌜ now (window .exit) ≡ memoryAfter (record { submission = now (submission .entry); operator = now (operator .entry); map = now (map .entry); first = first; size = length (now (window .entry)) }) (now (window .entry)) ⌝ }
+    ensures { λ r. ⌜ r ≡ decisionOf (lent (now (submission .entry)) (now (operator .entry)) (now (map .entry)) first (length (now (window .entry)))) ⌝ }
+    ensures { λ _. ⌜ now (window .exit) ≡ memoryAfter (lent (now (submission .entry)) (now (operator .entry)) (now (map .entry)) first (length (now (window .entry)))) (now (window .entry)) ⌝ }
 {
     let decision = decision::decide(submission, operator, map, first, window.len());
     let verdict = decision.answer;

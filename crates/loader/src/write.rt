@@ -17,10 +17,11 @@ ghost use Rattle.command_line.specs.CommandLine.{commandLine};
 ghost use Rattle.block.specs.Block.{blockOf};
 ghost use Rattle.block.specs.Writing.{SpansLow, StringsIn, Room};
 ghost use Rattle.image.specs.Judged.{maxSegments};
+ghost use Rattle.decision.specs.Lent.{lent};
 ghost use Rattle.loader.specs.Memory.{segmentWrite, moduleWrite, contentsFor, writesOf, PlanOfLoad};
 
 // Writes everything of a load: the kernel, the modules, and the information block.
-pub fn write_load<'a>(
+pub(crate) fn write_load<'a>(
     window: &mut [u8],
     first: u32,
     submission: &'a [u8],
@@ -28,8 +29,8 @@ pub fn write_load<'a>(
     map: &[u8],
     plan: Plan,
 )
-    requires { ⌜ PlanOfLoad (record { submission = now submission; operator = now operator; map = now map; first = first; size = length (now window) }) plan ⌝ }
-    ensures { λ _. ⌜ now (window .exit) ≡ written (now (window .entry)) (writesOf (record { submission = now (submission .entry); operator = now (operator .entry); map = now (map .entry); first = first; size = length (now (window .entry)) })) ⌝ }
+    requires { ⌜ PlanOfLoad (lent (now submission) (now operator) (now map) first (length (now window))) plan ⌝ }
+    ensures { λ _. ⌜ now (window .exit) ≡ written (now (window .entry)) (writesOf (lent (now (submission .entry)) (now (operator .entry)) (now (map .entry)) first (length (now (window .entry))))) ⌝ }
 {
     let base = PhysAddr(first as u64);
     let read = submission::parse(submission);

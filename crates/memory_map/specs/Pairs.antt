@@ -15,7 +15,7 @@ use lib.ListN.{length, getD, replicate}
 use Rattle.number.specs.Number.{numberAt}
 use Rattle.laws.specs.Tests.{any, run}
 use Rattle.laws.specs.Table.{table}
-use Rattle.laws.specs.Checks.{Check, _gives_, firstOf}
+use Rattle.laws.specs.Checks.{Check, firstOf, _gives_}
 use Rattle.answer.specs.declared.Answer.{Answer}
 use Rattle.answer.specs.declared.Answer.the-variants.{Load, BadMemoryMap}
 use Rattle.memory_map.specs.declared.Pair.{Pair}

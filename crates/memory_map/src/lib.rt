@@ -2,9 +2,9 @@
 use answer::Answer;
 ghost use mathlib.Core.Path.{_≡_};
 ghost use mathlib.Core.Bool.{_||_};
-ghost use Prim.Native.Nat.{_+_, _≤_};
+ghost use Prim.Native.Nat.{_+_, _^_, _≤_, _<_, min};
 ghost use lib.ListN.{length};
-ghost use Rattle.memory_map.specs.Pairs.{kindOffset, pairAt, tooSmall, pastEnd, parsedMap, noMap};
+ghost use Rattle.memory_map.specs.Pairs.{maxPairs, kindOffset, pairAt, tooSmall, pastEnd, parsedMap, noMap};
 
 // The limits of a map.
 pub const MAX_PAIRS: usize = 32;
@@ -33,6 +33,19 @@ pub struct Pair {
 pub struct MemMap {
     pub pairs: [Pair; MAX_PAIRS],
     pub count: usize,
+}
+
+impl MemMap {
+    // How many pairs there are: the count, and no more than the array holds.
+    pub fn len(self) -> usize
+        ensures { λ r. ⌜ r ≡ min (self .count) maxPairs ⌝ }
+    {
+        if self.count < MAX_PAIRS {
+            self.count
+        } else {
+            MAX_PAIRS
+        }
+    }
 }
 
 // What reading a map answers: Load and its pairs, or the refusal and no pairs.
@@ -91,7 +104,7 @@ fn broken(m: &[u8], at: usize) -> bool
 
 // The pair at `at`.
 fn read_pair(m: &[u8], at: usize) -> Pair
-    requires { ⌜ at + (kindOffset + 4) ≤ length (now m) ⌝ }
+    requires { ⌜ at + kindOffset < 2 ^ 64 ⌝ }
     ensures { λ r. ⌜ r ≡ pairAt (now (m .entry)) at ⌝ }
 {
     Pair {

@@ -1,11 +1,11 @@
--- One turn of each loop: a byte more read, a word more written.
+-- One turn of each loop: a byte more read, a word more written; and a byte past the end.
 -- Assumes nothing.
-use mathlib.Core.Path.{_≡_, refl, ap, _∙_}
+use mathlib.Core.Path.{_≡_, refl, sym, ap, _∙_}
 use mathlib.Core.List.{List, [], _∷_, _++_, append-assoc, append-nil}
 use Prim.Native.Nat.{ℕ, zero, suc, _+_, _*_, _-_, _^_, _≤_, _<_}
 use native.Mathlib.Numerals.{add-one}
 use native.Mathlib.Omega.{arith}
-use lib.ListN.{length, take, drop, getD}
+use lib.ListN.{length, take, drop, getD, List·getD-eq-default}
 use lib.Seq.{length-take-le}
 use Rattle.buffer.specs.Patched.{patched}
 use Rattle.buffer.specs.PatchedLaws.{patched-append}
@@ -28,6 +28,10 @@ module _ (s : List ℕ) (at width i value : ℕ) (e : value ≡ number i (drop (
       let n : i ≡ width = omega arith in
       let m : at + (width - i) ≡ at = omega arith in
       rw (m, n) at e
+
+-- past the end a list has its default
+pub byte-past : (s : List ℕ) (i : ℕ) → length s ≤ i → 0 ≡ getD s i 0
+byte-past s i h = sym (List·getD-eq-default s 0 h)
 
 pub read-none : (s : List ℕ) → 0 ≡ number 0 s
 unfolding number

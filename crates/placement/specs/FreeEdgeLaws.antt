@@ -9,7 +9,6 @@ use Prim.Native.Nat.{ℕ, _≤_, _<_}
 use native.Mathlib.Omega.{arith}
 use Rattle.laws.specs.TestLaws.{any-same}
 use Rattle.edge.specs.EdgeLaws.{Edge, edges-are}
-use Rattle.usable.specs.Usable.{addressSpace}
 use Rattle.board.specs.declared.Board.{Board}
 use Rattle.board.specs.Open.{isOpen}
 use Rattle.board.specs.OpenLaws.{open-end}
@@ -31,11 +30,11 @@ module _ (b : Board) (t : Spans) (x : ℕ) where
   unfolding isFree
   free-end l = rw (open-end b x l)
 
-  module _ (l : x < b .window .end .0) (small : b .window .end .0 ≤ addressSpace) where
+  module _ (l : x < b .window .end .0) where
     pub free-edge-is : Edge (isFree (isOpen b) t) x (b .window .end .0) (freeEdge b t x)
     unfolding isFree freeEdge
     free-edge-is =
-        let p = open-edge-is b x l small in
+        let p = open-edge-is b x l in
         let q = taken-edge-is t x (openEdge b x) (p .past) in
         record { past = q .past; near = omega arith; same = λ y u v. rw (p .same y u (omega arith), q .same y u v) }
 

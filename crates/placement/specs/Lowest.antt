@@ -6,7 +6,7 @@ use mathlib.Core.Bool.{Bool, _&&_}
 use Prim.Native.Nat.{ℕ, _-_}
 use Rattle.laws.specs.Tests.{allFrom}
 use Rattle.laws.specs.First.{first, Found, none, at}
-use Rattle.address.specs.Address.{floor, isMultiple}
+use Rattle.address.specs.Address.{floor, isMultiple, boundaryOf}
 use Rattle.usable.specs.Usable.{addressSpace}
 use Rattle.placement.specs.declared.Spans.{Spans}
 use Rattle.placement.specs.declared.Item.{Item}
@@ -15,7 +15,7 @@ use Rattle.placement.specs.declared.Place.the-variants.{At, NoRoom}
 use Rattle.placement.specs.Free.{isFree}
 
 unfoldable pub fits : (ℕ → Bool) → Item → ℕ → Bool
-fits free q a = isMultiple (q .boundary) a && allFrom free a (q .length)
+fits free q a = isMultiple (boundaryOf (q .pages)) a && allFrom free a (q .length)
 
 -- the lowest of the addresses from the floor up that passes; addresses end at 2^32
 unfoldable pub lowest : (ℕ → Bool) → Item → Found

@@ -16,7 +16,7 @@ use Rattle.laws.specs.TestLaws.{true-or-false, lt-or-le, and-left, and-right, a
 use Rattle.laws.specs.First.{Found, none, at, Lowest}
 use Rattle.laws.specs.FirstLaws.{first-at, first-none, at-lowest, none-lowest}
 use Rattle.address.specs.declared.PhysAddr.{PhysAddr}
-use Rattle.address.specs.Address.{floor, isMultiple}
+use Rattle.address.specs.Address.{floor, isMultiple, boundaryOf}
 use Rattle.usable.specs.Usable.{addressSpace}
 use Rattle.placement.specs.declared.Spans.{Spans}
 use Rattle.placement.specs.declared.Item.{Item}
@@ -40,7 +40,7 @@ module _ (o : ℕ → Bool) (t : Spans) (q : Item) where
   pub suits-is : (a : ℕ) → ((floor ≤ a) × (fits (isFree o t) q a ≡ true)) ↔ Suits o t q a
   unfolding fits isMultiple
   suits-is a =
-      let M : Bool = eqb (a % q .boundary) 0 in
+      let M : Bool = eqb (a % boundaryOf (q .pages)) 0 in
       let F : Bool = allFrom (isFree o t) a (q .length) in (
         λ e.
             let h : (y : ℕ) → a ≤ y → y < a + q .length → Free o t y = λ y l u. free-is o t y .0 (all-elim (isFree o t) a (q .length) (and-right M F (e .1)) y l u) in

@@ -5,7 +5,7 @@
 --     placedFrom    k items from the item i on, each at its lowest place beside the spans before it, up to the first with no room
 --     placeItems    all items placed beside the spans taken
 -- Assumes nothing.
-use mathlib.Core.Bool.{Bool}
+use mathlib.Core.Bool.{Bool, false}
 use Prim.Native.Nat.{ℕ, zero, suc, _+_}
 use lib.ListN.{getD, set}
 use Rattle.address.specs.declared.PhysAddr.{PhysAddr}
@@ -22,7 +22,7 @@ abbrev pub maxItems : ℕ
 maxItems = 17
 
 abbrev pub noItem : Item
-noItem = record { length = 0; boundary = 0 }
+noItem = record { length = 0; pages = false }
 
 abbrev pub itemNo : Items → ℕ → Item
 itemNo q i = getD (q .list) i noItem

@@ -11,7 +11,7 @@ use mathlib.Core.Path.{_≡_}
 use mathlib.Core.Bool.{Bool, true}
 use mathlib.Core.Logic.{_↔_}
 use Prim.Native.Nat.{ℕ, _+_, _%_, _≤_, _<_}
-use Rattle.address.specs.Address.{floor, spanNo}
+use Rattle.address.specs.Address.{floor, spanNo, boundaryOf}
 use Rattle.placement.specs.declared.Spans.{Spans}
 use Rattle.placement.specs.declared.Item.{Item}
 use Rattle.placement.specs.declared.Items.{Items}
@@ -22,7 +22,7 @@ use Rattle.placement.specs.Order.{itemNo}
 -- the item q may be placed at a: from the floor up, on its boundary, each of its addresses open and in no span taken
 pub record Suits (o : ℕ → Bool) (t : Spans) (q : Item) (a : ℕ) : Type 0 where
   pub low : floor ≤ a
-  pub boundary : a % q .boundary ≡ 0
+  pub boundary : a % boundaryOf (q .pages) ≡ 0
   pub opened : (y : ℕ) → a ≤ y → y < a + q .length → o y ≡ true
   pub apart : (y : ℕ) → a ≤ y → y < a + q .length → (i : ℕ) → i < t .count → Holds (spanNo (t .list) i) y → ⊥
 

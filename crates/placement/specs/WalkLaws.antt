@@ -15,19 +15,18 @@ use borrow.Author.Tests.{eq-eqb, ne-eqb}
 use Rattle.laws.specs.TestLaws.{lt-or-le, all-intro, all-not}
 use Rattle.laws.specs.First.{none, at}
 use Rattle.laws.specs.FirstLaws.{first-none, first-at}
-use Rattle.address.specs.Address.{floor, page, isMultiple, roundUp}
-use Rattle.address.specs.RoundLaws.{rounded}
+use Rattle.address.specs.Address.{floor, page, isMultiple, roundUp, boundaryOf}
+use Rattle.address.specs.RoundLaws.{rounded, boundary-some}
 use Rattle.edge.specs.EdgeLaws.{Edge}
 use Rattle.edge.specs.PassLaws.{AllPass, pass-start, pass-on}
 use Rattle.usable.specs.Usable.{addressSpace}
 use Rattle.placement.specs.declared.Item.{Item}
 use Rattle.placement.specs.Lowest.{fits, lowest}
-use Rattle.placement.specs.Ready.{Bounded}
 
 pub record Tried (free : ℕ → Bool) (q : Item) (a x : ℕ) : Type 0 where
   pub low : floor ≤ a
   pub below : a < addressSpace
-  pub multiple : a % q .boundary ≡ 0
+  pub multiple : a % boundaryOf (q .pages) ≡ 0
   pub clear : AllPass free a x
   pub before : (s : ℕ) → floor ≤ s → s < a → fits free q s ≡ false
 
@@ -35,9 +34,9 @@ module _ (free : ℕ → Bool) (q : Item) where
   -- an address that is not free keeps the item from each place that would hold it
   not-over : (s y : ℕ) → s ≤ y → y < s + q .length → free y ≡ false → fits free q s ≡ false
   unfolding fits
-  not-over s y l m e = ap (λ (b : Bool). isMultiple (q .boundary) s && b) (all-not free s (q .length) y l m e) ∙ and-false (isMultiple (q .boundary) s)
+  not-over s y l m e = ap (λ (b : Bool). isMultiple (boundaryOf (q .pages)) s && b) (all-not free s (q .length) y l m e) ∙ and-false (isMultiple (boundaryOf (q .pages)) s)
 
-  not-multiple : (s : ℕ) → (s % q .boundary ≡ 0 → ⊥) → fits free q s ≡ false
+  not-multiple : (s : ℕ) → (s % boundaryOf (q .pages) ≡ 0 → ⊥) → fits free q s ≡ false
   unfolding fits isMultiple
   not-multiple s e = rw (ne-eqb _ _ e)
 
@@ -49,51 +48,53 @@ module _ (free : ℕ → Bool) (q : Item) where
       (λ le. not-over s x le (omega arith) f)
       (lt-or-le x s)
 
-  module _ (bounded : Bounded q) where
-    pub tried-start : Tried free q (roundUp floor (q .boundary)) (roundUp floor (q .boundary))
-    tried-start =
-        let r = rounded floor (q .boundary) (bounded .some) in
-        record {
-          low = r .low;
-          below = omega (arith, bounded .most);
-          multiple = r .multiple;
-          clear = pass-start _ _;
-          before = λ s l m. not-multiple s (λ z. omega (arith, r .lowest s l z));
-        }
+  bounded : (0 < boundaryOf (q .pages)) × (boundaryOf (q .pages) ≤ page)
+  bounded = boundary-some (q .pages)
 
-    pub tried-on : (a x : ℕ) {e w : ℕ} → Tried free q a x → Edge free x w e → free x ≡ true → Tried free q a e
-    tried-on a x t g f =
-        record { low = t .low; below = t .below; multiple = t .multiple; clear = pass-on _ _ _ (t .clear) g f; before = t .before }
+  pub tried-start : Tried free q (roundUp floor (boundaryOf (q .pages))) (roundUp floor (boundaryOf (q .pages)))
+  tried-start =
+      let r = rounded floor (boundaryOf (q .pages)) (bounded .0) in
+      record {
+        low = r .low;
+        below = omega (arith, bounded .1);
+        multiple = r .multiple;
+        clear = pass-start _ _;
+        before = λ s l m. not-multiple s (λ z. omega (arith, r .lowest s l z));
+      }
 
-    pub tried-past : (a x e : ℕ) {w : ℕ} → w + page ≤ addressSpace → x < a + q .length → Tried free q a x → Edge free x w e → free x ≡ false → Tried free q (roundUp e (q .boundary)) (roundUp e (q .boundary))
-    tried-past a x e small short t g f =
-        let r = rounded e (q .boundary) (bounded .some) in
-        let c = t .clear in
-        record {
-          low = omega arith;
-          below = omega (arith, bounded .most);
-          multiple = r .multiple;
-          clear = pass-start _ _;
-          before = λ s l m.
-              ⊎-elim
-              (λ lt. t .before s l lt)
-              (λ le. ⊎-elim (λ lt. not-up-to a x e s short f (g .same) (c .from) le lt) (λ up. not-multiple s (λ z. omega (arith, r .lowest s up z))) (lt-or-le s e))
-              (lt-or-le s a);
-        }
+  pub tried-on : (a x : ℕ) {e w : ℕ} → Tried free q a x → Edge free x w e → free x ≡ true → Tried free q a e
+  tried-on a x t g f =
+      record { low = t .low; below = t .below; multiple = t .multiple; clear = pass-on _ _ _ (t .clear) g f; before = t .before }
 
-    pub tried-found : (a x : ℕ) → Tried free q a x → a + q .length ≤ x → lowest free q ≡ at a
-    unfolding lowest fits isMultiple
-    tried-found a x t l =
-        first-at _ _ _ a (t .low) (omega (arith, t .below))
-        (rw (eq-eqb _ _ (t .multiple)) (all-intro free a (q .length) (λ y u v. t .clear .all y u (omega arith))))
-        (t .before)
+  pub tried-past : (a x e : ℕ) {w : ℕ} → w + page ≤ addressSpace → x < a + q .length → Tried free q a x → Edge free x w e → free x ≡ false → Tried free q (roundUp e (boundaryOf (q .pages))) (roundUp e (boundaryOf (q .pages)))
+  tried-past a x e small short t g f =
+      let r = rounded e (boundaryOf (q .pages)) (bounded .0) in
+      let c = t .clear in
+      record {
+        low = omega arith;
+        below = omega (arith, bounded .1);
+        multiple = r .multiple;
+        clear = pass-start _ _;
+        before = λ s l m.
+            ⊎-elim
+            (λ lt. t .before s l lt)
+            (λ le. ⊎-elim (λ lt. not-up-to a x e s short f (g .same) (c .from) le lt) (λ up. not-multiple s (λ z. omega (arith, r .lowest s up z))) (lt-or-le s e))
+            (lt-or-le s a);
+      }
 
-    pub tried-end : (a x : ℕ) → x < a + q .length → Tried free q a x → ((y : ℕ) → x ≤ y → free y ≡ false) → lowest free q ≡ none
-    unfolding lowest
-    tried-end a x short t f =
-        first-none _ _ _
-        (λ s l m.
-        ⊎-elim
-        (λ lt. t .before s l lt)
-        (λ le. not-up-to a x (s + 1) s short (f x (omega arith)) (λ y u v. f y u ∙ sym (f x (omega arith))) (t .clear .from) le (omega arith))
-        (lt-or-le s a))
+  pub tried-found : (a x : ℕ) → Tried free q a x → a + q .length ≤ x → lowest free q ≡ at a
+  unfolding lowest fits isMultiple
+  tried-found a x t l =
+      first-at _ _ _ a (t .low) (omega (arith, t .below))
+      (rw (eq-eqb _ _ (t .multiple)) (all-intro free a (q .length) (λ y u v. t .clear .all y u (omega arith))))
+      (t .before)
+
+  pub tried-end : (a x : ℕ) → x < a + q .length → Tried free q a x → ((y : ℕ) → x ≤ y → free y ≡ false) → lowest free q ≡ none
+  unfolding lowest
+  tried-end a x short t f =
+      first-none _ _ _
+      (λ s l m.
+      ⊎-elim
+      (λ lt. t .before s l lt)
+      (λ le. not-up-to a x (s + 1) s short (f x (omega arith)) (λ y u v. f y u ∙ sym (f x (omega arith))) (t .clear .from) le (omega arith))
+      (lt-or-le s a))

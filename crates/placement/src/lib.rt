@@ -1,9 +1,12 @@
 // Placement: the items of a load, each at the lowest address at which it lies wholly in open memory that is not taken.
 use address::PhysAddr;
 use address::Span;
+ghost use mathlib.Core.Path.{_≡_};
+ghost use Prim.Native.Nat.{min};
+ghost use Rattle.placement.specs.Free.{maxSpans};
 
-pub mod free;
-pub mod lowest;
+mod free;
+mod lowest;
 pub mod order;
 
 // At most so many items: 16 modules and the information block.
@@ -18,10 +21,23 @@ pub struct Spans {
     pub count: usize,
 }
 
-// What is to be placed: so many bytes, from a multiple of the boundary on.
+impl Spans {
+    // How many spans there are: the count, and no more than the array holds.
+    fn len(self) -> usize
+        ensures { λ r. ⌜ r ≡ min (self .count) maxSpans ⌝ }
+    {
+        if self.count < MAX_SPANS {
+            self.count
+        } else {
+            MAX_SPANS
+        }
+    }
+}
+
+// What is to be placed: so many bytes, on a page boundary or on one of four bytes.
 pub struct Item {
     pub length: u64,
-    pub boundary: u64,
+    pub pages: bool,
 }
 
 // The items of a load: the modules, then the information block.

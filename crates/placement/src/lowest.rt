@@ -6,17 +6,18 @@ use crate::free;
 use address::PhysAddr;
 use board::Board;
 ghost use mathlib.Core.Path.{_≡_};
+ghost use Prim.Native.Nat.{_≤_};
+ghost use Rattle.address.specs.Address.{top};
 ghost use Rattle.board.specs.Open.{isOpen};
 ghost use Rattle.placement.specs.Lowest.{lowestPlace};
-ghost use Rattle.placement.specs.Ready.{Ready};
 
 // The lowest place of an item beside the spans taken, or no room where no address serves. From a candidate a, x goes from edge
 // to edge as long as it meets free addresses; past others the next candidate is the edge, rounded up.
-pub fn lowest_place(board: Board, taken: Spans, item: Item) -> Place
-    requires { ⌜ Ready board taken item ⌝ }
+pub(crate) fn lowest_place(board: Board, taken: Spans, item: Item) -> Place
+    requires { ⌜ board .window .end .0 ≤ top ⌝ }
     ensures { λ r. ⌜ r ≡ lowestPlace (isOpen board) taken item ⌝ }
 {
-    let mut a = PhysAddr::lowest(item.boundary);
+    let mut a = PhysAddr::lowest(item.pages);
     let mut x = a;
     while x.0 - a.0 < item.length {
         if board.window.end.0 <= x.0 {
@@ -26,7 +27,7 @@ pub fn lowest_place(board: Board, taken: Spans, item: Item) -> Place
         if free::is_free(board, taken, x) {
             x = e;
         } else {
-            a = e.round_up(item.boundary);
+            a = e.round_up(item.pages);
             x = a;
         }
     }

@@ -12,7 +12,7 @@ ghost use Prim.Native.Nat.{_<_};
 ghost use Rattle.board.specs.Open.{isOpen};
 ghost use Rattle.placement.specs.Free.{maxSpans};
 ghost use Rattle.placement.specs.Order.{withSpan, placeItems};
-ghost use Rattle.placement.specs.Ready.{ReadyItems};
+ghost use Rattle.placement.specs.Ready.{Ready};
 
 // The spans with one more.
 fn with_span(spans: Spans, span: Span) -> Spans
@@ -28,7 +28,7 @@ fn with_span(spans: Spans, span: Span) -> Spans
 
 // The items placed in order, each at its lowest place beside the spans taken and the items before it, up to the first with no room.
 pub fn place_items(board: Board, taken: Spans, items: Items) -> Placed
-    requires { ⌜ ReadyItems board taken items ⌝ }
+    requires { ⌜ Ready board taken items ⌝ }
     ensures { λ r. ⌜ r ≡ placeItems (isOpen board) taken items ⌝ }
 {
     let mut t = taken;

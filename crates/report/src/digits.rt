@@ -11,7 +11,7 @@ const HEX: usize = 8;
 const DECIMAL: usize = 10;
 
 // Writes the numbers, each behind a blank in eight hexadecimal digits, and ends the line.
-pub fn write_fields(text: &mut [u8], at: usize, fields: &[u32]) -> usize
+pub(crate) fn write_fields(text: &mut [u8], at: usize, fields: &[u32]) -> usize
     requires { ⌜ at + 9 * length (now fields) + 1 < 2 ^ 64 ⌝ }
     ensures { λ r. ⌜ Wrote (now (text .entry)) at (fieldsText (now (fields .entry))) (now (text .exit)) r ⌝ }
 {
@@ -35,7 +35,7 @@ fn write_field(text: &mut [u8], at: usize, x: u32) -> usize
 }
 
 // Writes a number in decimal digits, without zeros in front.
-pub fn write_decimal(text: &mut [u8], at: usize, x: u32) -> usize
+pub(crate) fn write_decimal(text: &mut [u8], at: usize, x: u32) -> usize
     requires { ⌜ at + decimalLength < 2 ^ 64 ⌝ }
     ensures { λ r. ⌜ Wrote (now (text .entry)) at (decimalText x) (now (text .exit)) r ⌝ }
 {

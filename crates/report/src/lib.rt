@@ -20,7 +20,7 @@ ghost use Rattle.viertompu.specs.Joined.{joined};
 ghost use Rattle.report.specs.Text.{Wrote};
 ghost use Rattle.report.specs.Report.{maxLineText, maxReport, lineText, refusalText, segmentLine, moduleLine, reportOf};
 
-pub mod digits;
+mod digits;
 
 // No report is longer.
 pub const MAX_REPORT: usize = 1584;
@@ -117,7 +117,7 @@ fn write_line(text: &mut [u8], at: usize, label: &[u8], fields: &[u32]) -> usize
 }
 
 // Writes the bytes of a text.
-pub fn write_text(text: &mut [u8], at: usize, s: &[u8]) -> usize
+pub(crate) fn write_text(text: &mut [u8], at: usize, s: &[u8]) -> usize
     requires { ⌜ at + length (now s) < 2 ^ 64 ⌝ }
     ensures { λ r. ⌜ Wrote (now (text .entry)) at (now (s .entry)) (now (text .exit)) r ⌝ }
 {

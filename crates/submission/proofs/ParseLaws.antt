@@ -7,7 +7,6 @@ use mathlib.Core.Path.{_≡_, refl, ap, _∙_}
 use mathlib.Core.Bool.{true, false}
 use mathlib.Core.List.{List}
 use Prim.Native.Nat.{ℕ, _≤_, _<_}
-use native.Mathlib.Omega.{arith}
 use lib.ListN.{length}
 use borrow.Author.Tests.{le-leb, eq-eqb}
 use Rattle.answer.specs.declared.Answer.the-variants.{Load, NotASubmission, BadSubmission}
@@ -15,8 +14,8 @@ use Rattle.laws.specs.Tests.{allFrom}
 use Rattle.laws.specs.Checks.{firstOf, passes}
 use Rattle.laws.specs.CheckLaws.{chain}
 use Rattle.submission.specs.Scan.{hasZero}
-use Rattle.submission.specs.Format.{moduleCount, lineLength, imageStart, partsEnd, linePart, maxModules, layoutOf, noLayout, bytesOf}
-use Rattle.submission.specs.FormatLaws.{data-behind-line, data-order, layout-line, layout-count}
+use Rattle.submission.specs.Format.{moduleCount, lineLength, partsEnd, linePart, maxModules, layoutOf, noLayout, bytesOf}
+use Rattle.submission.specs.FormatLaws.{layout-line, layout-count}
 use Rattle.submission.specs.Rules.{maxLine, isSubmission, entryHolds, stringHolds, rulesHold, submissionChecks, parsedSubmission}
 use Rattle.submission.specs.declared.Layout.{Layout}
 
@@ -44,10 +43,6 @@ module _ (s : List ℕ) where
   pub other-end : (partsEnd s ≡ length s → ⊥) → rulesHold s ≡ false
   unfolding rulesHold
   other-end h = search chain depth 20
-
-  -- a table that runs past the end puts the end of the parts there
-  pub table-outside : length s < imageStart s → rulesHold s ≡ false
-  table-outside h = other-end (λ e. omega (arith, data-order s 0 (moduleCount s) (omega arith), data-behind-line s))
 
   pub zero-in-line : hasZero (bytesOf s (linePart s)) ≡ true → rulesHold s ≡ false
   unfolding rulesHold

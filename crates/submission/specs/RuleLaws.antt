@@ -70,9 +70,6 @@ module _ (s : List ℕ) where
       let ab = and-left (a && b) c h in
       (leb-true prefixSize (length s) (and-left a b ab), same-is (take 3 s) mark .0 (and-right a b ab), eqb-true _ _ (and-right (a && b) c h))
 
-  pub header-inside : isSubmission s ≡ true → prefixSize ≤ length s
-  header-inside h = header-facts h .0
-
   is-submission : passes (submissionChecks s) ≡ true → isSubmission s ≡ true
   unfolding passes submissionChecks
   is-submission h = not-false _ (not-true _ (and-left (not (not (isSubmission s))) (not (not (rulesHold s)) && true) h))

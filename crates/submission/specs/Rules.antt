@@ -11,7 +11,7 @@ use lib.ListN.{length, take}
 use Rattle.answer.specs.declared.Answer.{Answer}
 use Rattle.answer.specs.declared.Answer.the-variants.{Load, NotASubmission, BadSubmission}
 use Rattle.laws.specs.Tests.{allFrom}
-use Rattle.laws.specs.Checks.{Check, _gives_, firstOf, passes}
+use Rattle.laws.specs.Checks.{Check, firstOf, passes, _gives_}
 use Rattle.submission.specs.Scan.{hasZero, sameBytes}
 use Rattle.submission.specs.Format.{mark, version, moduleCount, lineLength, prefixSize, tableEntry, partsEnd, linePart, moduleOf, maxModules, layoutOf, noLayout, bytesOf}
 use Rattle.submission.specs.declared.read.TableEntry.{TableEntry}

@@ -9,10 +9,10 @@ mod rules;
 pub mod scan;
 
 // The header's size.
-pub const PREFIX: usize = 12;
+pub(crate) const PREFIX: usize = 12;
 
 // The size of a module's entry in the table behind the header.
-pub const TABLE_ENTRY: usize = 8;
+pub(crate) const TABLE_ENTRY: usize = 8;
 
 // At most so many modules.
 pub const MAX_MODULES: usize = 16;
@@ -21,7 +21,7 @@ pub const MAX_MODULES: usize = 16;
 pub const MAX_LINE: usize = 255;
 
 // At most so many bytes in a module's string.
-pub const MAX_STRING: u16 = 127;
+pub(crate) const MAX_STRING: u16 = 127;
 
 // A part of the submission, by its offset and length.
 pub struct Part {
@@ -58,9 +58,6 @@ pub fn parse(s: &[u8]) -> ParsedSubmission
     }
     let count = read::module_count(s);
     if MAX_MODULES < count {
-        return refused(Answer::BadSubmission);
-    }
-    if s.len() < read::entry_offset(count) {
         return refused(Answer::BadSubmission);
     }
     let laid = read::read_layout(s, count);

@@ -1,8 +1,7 @@
 // Where the parts of a submission lie.
 ghost use mathlib.Core.Path.{_≡_};
 ghost use Prim.Native.Nat.{_+_, _^_, _≤_, _<_};
-ghost use lib.ListN.{length};
-ghost use Rattle.submission.specs.Format.{moduleCount, prefixSize, tableEntrySize, entryOffset, tableEntry, partsEnd, moduleFrom, maxModules, layoutOf, noLayout};
+ghost use Rattle.submission.specs.Format.{moduleCount, entryOffset, tableEntry, partsEnd, moduleFrom, maxModules, layoutOf, noLayout};
 use crate::Layout;
 use crate::MAX_MODULES;
 use crate::Module;
@@ -11,37 +10,36 @@ use crate::Part;
 use crate::TABLE_ENTRY;
 
 // The parts of a submission, and where the last one ends.
-pub struct Laid {
+pub(crate) struct Laid {
     pub layout: Layout,
     pub end: usize,
 }
 
 // What the table says of a module: the lengths of its data and its string, and two bytes that are to be zero.
-pub struct TableEntry {
+pub(crate) struct TableEntry {
     pub bytes: u32,
     pub string: u16,
     pub reserved: u16,
 }
 
 // How many modules the header announces.
-pub fn module_count(s: &[u8]) -> usize
-    requires { ⌜ prefixSize ≤ length (now s) ⌝ }
+pub(crate) fn module_count(s: &[u8]) -> usize
     ensures { λ r. ⌜ (r ≡ moduleCount (now (s .entry))) × (r < 2 ^ 8) ⌝ }
 {
-    number::read_le(s, 5, 1) as usize
+    number::read_u8(s, 5) as usize
 }
 
 // Where the entry of module i begins, and behind the last entry the image.
-pub fn entry_offset(i: usize) -> usize
+fn entry_offset(i: usize) -> usize
     requires { ⌜ entryOffset i < 2 ^ 64 ⌝ }
     ensures { λ r. ⌜ r ≡ entryOffset i ⌝ }
 {
     PREFIX + TABLE_ENTRY * i
 }
 
-// The entry of module i.
-pub fn read_entry(s: &[u8], i: usize) -> TableEntry
-    requires { ⌜ entryOffset i + tableEntrySize ≤ length (now s) ⌝ }
+// The entry of module i in the table.
+pub(crate) fn read_entry(s: &[u8], i: usize) -> TableEntry
+    requires { ⌜ i < maxModules ⌝ }
     ensures { λ r. ⌜ r ≡ tableEntry (now (s .entry)) i ⌝ }
 {
     let at = entry_offset(i);
@@ -52,9 +50,9 @@ pub fn read_entry(s: &[u8], i: usize) -> TableEntry
     }
 }
 
-// The parts of a submission with `count` modules, whose table lies inside.
-pub fn read_layout(s: &[u8], count: usize) -> Laid
-    requires { ⌜ (count ≡ moduleCount (now s)) × (count ≤ maxModules) × (entryOffset count ≤ length (now s)) ⌝ }
+// The parts of a submission with `count` modules.
+pub(crate) fn read_layout(s: &[u8], count: usize) -> Laid
+    requires { ⌜ (count ≡ moduleCount (now s)) × (count ≤ maxModules) ⌝ }
     ensures { λ r. ⌜ (r .layout ≡ layoutOf (now (s .entry))) × (r .end ≡ partsEnd (now (s .entry))) ⌝ }
 {
     let image = Part {
@@ -103,7 +101,7 @@ fn module_from(at: usize, entry: TableEntry) -> Module
 }
 
 // No parts.
-pub fn no_layout() -> Layout
+pub(crate) fn no_layout() -> Layout
     ensures { λ r. ⌜ r ≡ noLayout ⌝ }
 {
     let none = Part { at: 0, len: 0 };

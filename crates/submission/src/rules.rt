@@ -1,9 +1,8 @@
 // The rules that a submission keeps.
 ghost use mathlib.Core.Path.{_≡_};
 ghost use Prim.Native.Nat.{_≤_};
-ghost use lib.ListN.{length};
 ghost use Rattle.laws.specs.Tests.{allFrom};
-ghost use Rattle.submission.specs.Format.{moduleCount, entryOffset, partsEnd, maxModules, layoutOf};
+ghost use Rattle.submission.specs.Format.{moduleCount, partsEnd, maxModules, layoutOf};
 ghost use Rattle.submission.specs.Rules.{isSubmission, inLimits, entryHolds, stringHolds, rulesHold};
 use crate::Layout;
 use crate::MAX_LINE;
@@ -15,7 +14,7 @@ use crate::read::TableEntry;
 use crate::scan;
 
 // Whether the header is there, with the mark and version 1.
-pub fn is_submission(s: &[u8]) -> bool
+pub(crate) fn is_submission(s: &[u8]) -> bool
     ensures { λ r. ⌜ r ≡ isSubmission (now (s .entry)) ⌝ }
 {
     if s.len() < PREFIX {
@@ -28,8 +27,8 @@ pub fn is_submission(s: &[u8]) -> bool
 }
 
 // Whether every other rule holds, for a submission with these parts, the last of which ends at `end`.
-pub fn rules_hold(s: &[u8], l: Layout, end: usize) -> bool
-    requires { ⌜ (l ≡ layoutOf (now s)) × (end ≡ partsEnd (now s)) × (moduleCount (now s) ≤ maxModules) × (entryOffset (moduleCount (now s)) ≤ length (now s)) ⌝ }
+pub(crate) fn rules_hold(s: &[u8], l: Layout, end: usize) -> bool
+    requires { ⌜ (l ≡ layoutOf (now s)) × (end ≡ partsEnd (now s)) × (moduleCount (now s) ≤ maxModules) ⌝ }
     ensures { λ r. ⌜ r ≡ rulesHold (now (s .entry)) ⌝ }
 {
     let line = l.line;
@@ -50,7 +49,7 @@ pub fn rules_hold(s: &[u8], l: Layout, end: usize) -> bool
 
 // Whether the entry of each module holds.
 fn entries_hold(s: &[u8], count: usize) -> bool
-    requires { ⌜ (count ≤ maxModules) × (entryOffset count ≤ length (now s)) ⌝ }
+    requires { ⌜ count ≤ maxModules ⌝ }
     ensures { λ r. ⌜ r ≡ allFrom (entryHolds (now (s .entry))) 0 count ⌝ }
 {
     let mut i = 0;

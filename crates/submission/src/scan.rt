@@ -17,7 +17,7 @@ pub fn has_zero(s: &[u8]) -> bool
 }
 
 // Whether two slices hold the same bytes.
-pub fn same_bytes(s: &[u8], t: &[u8]) -> bool
+pub(crate) fn same_bytes(s: &[u8], t: &[u8]) -> bool
     ensures { λ r. ⌜ r ≡ sameBytes (now (s .entry)) (now (t .entry)) ⌝ }
 {
     if s.len() != t.len() {

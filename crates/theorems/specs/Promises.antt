@@ -17,7 +17,7 @@ use lib.ListN.{length, getD, take, drop}
 use Rattle.submission.specs.Format.{moduleNo, bytesOf}
 use Rattle.laws.specs.Checks.{Check, passes}
 use Rattle.number.specs.Number.{numberAt}
-use Rattle.address.specs.Address.{top, boundaryOf, noSpan, spanNo}
+use Rattle.address.specs.Address.{top, noSpan, spanNo}
 use Rattle.address.specs.declared.Span.{Span}
 use Rattle.answer.specs.Answer.{numberOf, itemOf}
 use Rattle.answer.specs.ChainLaws.{appliesNo, First}
@@ -188,8 +188,8 @@ SuitsIn x i a = Suits (isOpen (boardIn x)) (upTo (placedIn x .spans) (kernelIn x
 -- 3. the places of the modules and of the information block
 pub record Placing (x : Lent) : Type 0 where
   -- the items are the modules from index 0, then the information block
-  pub modules : (i : ℕ) → i < layoutIn x .count → itemIn x i ≡ record { length = moduleNo (layoutIn x) i .«data» .len; boundary = boundaryOf (kernelIn x .pages) }
-  pub block : itemIn x (layoutIn x .count) ≡ record { length = blockLengthIn x; boundary = boundaryOf false }
+  pub modules : (i : ℕ) → i < layoutIn x .count → itemIn x i ≡ record { length = moduleNo (layoutIn x) i .«data» .len; pages = kernelIn x .pages }
+  pub block : itemIn x (layoutIn x .count) ≡ record { length = blockLengthIn x; pages = false }
   -- the spans placed come behind the kernel's extents
   pub kernel : (j : ℕ) → j < kernelIn x .count → spanNo (placedIn x .spans .list) j ≡ extentNo (kernelIn x) j
   -- each item placed stands at the lowest address that suits it

@@ -1,10 +1,11 @@
 -- Edges of a memory map.
---     mapEdge    the nearest edge of a pair past x and before e, else e
+--     mapEdge    the nearest edge of a pair, or of all addresses, past x and before e, else e
 -- Assumes nothing.
 use Prim.Native.Nat.{ℕ, _+_}
-use Rattle.edge.specs.Edge.{edgeUpTo}
+use Rattle.edge.specs.Edge.{nearest, edgeUpTo}
 use Rattle.memory_map.specs.declared.MemMap.{MemMap}
 use Rattle.memory_map.specs.Pairs.{pairNo}
+use Rattle.usable.specs.Usable.{addressSpace}
 
 unfoldable pub mapEdge : MemMap → ℕ → ℕ → ℕ
-mapEdge m x e = edgeUpTo (λ i. pairNo m i .base) (λ i. pairNo m i .base + pairNo m i .length) x e (m .count)
+mapEdge m x e = edgeUpTo (λ i. pairNo m i .base) (λ i. pairNo m i .base + pairNo m i .length) x (nearest x e addressSpace) (m .count)

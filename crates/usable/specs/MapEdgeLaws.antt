@@ -2,14 +2,14 @@
 --     map-edge-is, map-edge-at    the edge of the map is an edge of the usable addresses, by name and as a call hands it over
 -- Assumes nothing.
 use mathlib.Core.Path.{_≡_, ap}
-use mathlib.Core.Bool.{Bool, true, not, _&&_}
-use Prim.Native.Nat.{ℕ, _+_, _≤_, _<_}
+use mathlib.Core.Bool.{Bool, not, _&&_}
+use Prim.Native.Nat.{ℕ, _+_, _<_}
 use native.Mathlib.Omega.{arith}
-use borrow.Author.Tests.{lt-ltb}
-use lib.Dec.{ltb, eqb}
+use lib.Dec.{leb, ltb, eqb}
 use Rattle.laws.specs.Tests.{any}
 use Rattle.laws.specs.TestLaws.{any-same}
-use Rattle.edge.specs.EdgeLaws.{Edge, Edges, edges-are}
+use Rattle.edge.specs.Edge.{nearest}
+use Rattle.edge.specs.EdgeLaws.{Edge, Edges, nearest-is, ltb-not, edges-are}
 use Rattle.memory_map.specs.declared.MemMap.{MemMap}
 use Rattle.memory_map.specs.Pairs.{pairNo}
 use Rattle.usable.specs.Usable.{ram, addressSpace, covers, usableBy, barredBy, isUsable}
@@ -25,22 +25,26 @@ module _ (m : MemMap) (x y k : ℕ) (h : (i : ℕ) → i < k → covers (pairNo 
   same-barred = any-same _ _ k (λ i l. ap (λ (b : Bool). not (eqb (pairNo m i .kind) ram) && b) (h i l))
 
 module _ (m : MemMap) (x e : ℕ) (l : x < e) where
-  covered-same : Edges (λ i. covers (pairNo m i)) (m .count) x e (mapEdge m x e)
-  unfolding covers mapEdge
-  covered-same = edges-are (λ i. pairNo m i .base) (λ i. pairNo m i .base + pairNo m i .length) x e l (m .count)
+  -- addresses end at 2^32, which is an edge too
+  ends-same : Edge (leb addressSpace) x e (nearest x e addressSpace)
+  ends-same = nearest-is x e addressSpace l
 
-  pub map-edge-is : e ≤ addressSpace → Edge (isUsable m) x e (mapEdge m x e)
+  covered-same : Edges (λ i. covers (pairNo m i)) (m .count) x (nearest x e addressSpace) (mapEdge m x e)
+  unfolding covers mapEdge
+  covered-same = edges-are (λ i. pairNo m i .base) (λ i. pairNo m i .base + pairNo m i .length) x (nearest x e addressSpace) (ends-same .past) (m .count)
+
+  pub map-edge-is : Edge (isUsable m) x e (mapEdge m x e)
   unfolding isUsable
-  map-edge-is top =
+  map-edge-is =
+      let g = ends-same in
       let h = covered-same in
       record {
         past = h .past;
-        near = h .near;
+        near = omega arith;
         same = λ y u v.
-            let ly : ltb y addressSpace ≡ true = lt-ltb y addressSpace (omega arith) in
-            let lx : ltb x addressSpace ≡ true = lt-ltb x addressSpace (omega arith) in
-            rw (ly, lx, same-usable m x y (m .count) (λ i n. h .same i n y u v), same-barred m x y (m .count) (λ i n. h .same i n y u v));
+            let s : ltb y addressSpace ≡ ltb x addressSpace = rw (ltb-not y addressSpace, ltb-not x addressSpace) (ap not (g .same y u (omega arith))) in
+            rw (s, same-usable m x y (m .count) (λ i n. h .same i n y u v), same-barred m x y (m .count) (λ i n. h .same i n y u v));
       }
 
-  pub map-edge-at : (r : ℕ) → r ≡ mapEdge m x e → e ≤ addressSpace → Edge (isUsable m) x e r
-  map-edge-at r q top = rw q (map-edge-is top)
+  pub map-edge-at : (r : ℕ) → r ≡ mapEdge m x e → Edge (isUsable m) x e r
+  map-edge-at r q = rw q map-edge-is

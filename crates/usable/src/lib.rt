@@ -3,19 +3,18 @@ use address::PhysAddr;
 use memory_map::MemMap;
 use memory_map::Pair;
 ghost use mathlib.Core.Path.{_≡_};
-ghost use Prim.Native.Nat.{_+_, _≤_};
+ghost use Prim.Native.Nat.{_+_};
 ghost use Rattle.edge.specs.Edge.{spanEdge};
-ghost use Rattle.memory_map.specs.Pairs.{maxPairs};
 ghost use Rattle.usable.specs.Usable.{covers, isUsable};
 ghost use Rattle.usable.specs.MapEdge.{mapEdge};
 
 pub mod sizes;
 
 // The type of a pair of usable memory.
-pub const RAM: u32 = 1;
+const RAM: u32 = 1;
 
 // Usable addresses are below this.
-pub const ADDRESS_SPACE: u64 = 0x100000000;
+pub(crate) const ADDRESS_SPACE: u64 = 0x100000000;
 
 // Whether the pair covers the address.
 fn pair_covers(pair: Pair, a: PhysAddr) -> bool
@@ -29,15 +28,15 @@ fn pair_covers(pair: Pair, a: PhysAddr) -> bool
 
 // Whether the address is usable: some pair of usable memory covers it, and no pair of another type does.
 pub fn is_usable(map: MemMap, a: PhysAddr) -> bool
-    requires { ⌜ map .count ≤ maxPairs ⌝ }
     ensures { λ r. ⌜ r ≡ isUsable map (a .0) ⌝ }
 {
     if ADDRESS_SPACE <= a.0 {
         return false;
     }
+    let n = map.len();
     let mut found = false;
     let mut i = 0;
-    while i < map.count {
+    while i < n {
         let pair = map.pairs[i];
         if pair_covers(pair, a) {
             if pair.kind == RAM {
@@ -64,14 +63,14 @@ fn pair_edge(pair: Pair, x: PhysAddr, e: PhysAddr) -> PhysAddr
     f
 }
 
-// The nearest edge of a pair of the map past x and before e, else e.
+// The nearest edge of a pair of the map, or of all addresses, past x and before e, else e.
 pub fn map_edge(map: MemMap, x: PhysAddr, e: PhysAddr) -> PhysAddr
-    requires { ⌜ map .count ≤ maxPairs ⌝ }
     ensures { λ r. ⌜ r .0 ≡ mapEdge map (x .0) (e .0) ⌝ }
 {
-    let mut f = e;
+    let n = map.len();
+    let mut f = edge::nearer(x, e, PhysAddr(ADDRESS_SPACE));
     let mut i = 0;
-    while i < map.count {
+    while i < n {
         let pair = map.pairs[i];
         f = pair_edge(pair, x, f);
         i += 1;

@@ -5,9 +5,8 @@ use crate::map_edge;
 use address::PhysAddr;
 use memory_map::MemMap;
 ghost use mathlib.Core.Path.{_≡_};
-ghost use Prim.Native.Nat.{_-_, _≤_};
+ghost use Prim.Native.Nat.{_-_};
 ghost use Rattle.laws.specs.Tests.{run};
-ghost use Rattle.memory_map.specs.Pairs.{maxPairs};
 ghost use Rattle.usable.specs.Usable.{addressSpace, isUsable};
 ghost use Rattle.usable.specs.Sizes.{memLower, memUpper};
 
@@ -19,7 +18,6 @@ const MAX_MEM_LOWER: u64 = 640;
 
 // The number of consecutive usable addresses from start on.
 fn usable_run(map: MemMap, start: PhysAddr) -> u64
-    requires { ⌜ map .count ≤ maxPairs ⌝ }
     ensures { λ r. ⌜ r ≡ run (isUsable map) (start .0) (addressSpace - start .0) ⌝ }
 {
     let mut x = start;
@@ -34,7 +32,6 @@ fn usable_run(map: MemMap, start: PhysAddr) -> u64
 
 // The size of lower memory in KiB.
 pub fn mem_lower(map: MemMap) -> u32
-    requires { ⌜ map .count ≤ maxPairs ⌝ }
     ensures { λ r. ⌜ r ≡ memLower map ⌝ }
 {
     let size = usable_run(map, PhysAddr(0)) / KIB;
@@ -47,7 +44,6 @@ pub fn mem_lower(map: MemMap) -> u32
 
 // The size of upper memory in KiB.
 pub fn mem_upper(map: MemMap) -> u32
-    requires { ⌜ map .count ≤ maxPairs ⌝ }
     ensures { λ r. ⌜ r ≡ memUpper map ⌝ }
 {
     (usable_run(map, PhysAddr(PhysAddr::FLOOR)) / KIB) as u32

@@ -9,6 +9,7 @@ ghost use lib.ListN.{length};
 ghost use Rattle.buffer.specs.Patched.{patched};
 ghost use Rattle.answer.specs.Answer.{numberOf};
 ghost use Rattle.decision.specs.Decision.{decisionOf};
+ghost use Rattle.decision.specs.Lent.{lent};
 ghost use Rattle.loader.specs.Memory.{memoryAfter};
 ghost use Rattle.viertompu.specs.Words.{firstSegment, firstModule, wordOf, headWords, segmentsWords, modulesWords, planWords};
 
@@ -56,9 +57,9 @@ pub extern "C" fn viertompu_load<'a>(
     first: u32,
     plan: &mut [u32; WORDS],
 ) -> u32
-    ensures { λ r. ⌜ r ≡ numberOf (decisionOf (record { submission = now (submission .entry); operator = now (operator .entry); map = now (map .entry); first = first; size = length (now (window .entry)) }) .answer) ⌝ }
-    ensures { λ _. ⌜ now (plan .exit) ≡ planWords (decisionOf (record { submission = now (submission .entry); operator = now (operator .entry); map = now (map .entry); first = first; size = length (now (window .entry)) })) ⌝ }
-    ensures { λ _. ⌜ now (window .exit) ≡ memoryAfter (record { submission = now (submission .entry); operator = now (operator .entry); map = now (map .entry); first = first; size = length (now (window .entry)) }) (now (window .entry)) ⌝ }
+    ensures { λ r. ⌜ r ≡ numberOf (decisionOf (lent (now (submission .entry)) (now (operator .entry)) (now (map .entry)) first (length (now (window .entry)))) .answer) ⌝ }
+    ensures { λ _. ⌜ now (plan .exit) ≡ planWords (decisionOf (lent (now (submission .entry)) (now (operator .entry)) (now (map .entry)) first (length (now (window .entry))))) ⌝ }
+    ensures { λ _. ⌜ now (window .exit) ≡ memoryAfter (lent (now (submission .entry)) (now (operator .entry)) (now (map .entry)) first (length (now (window .entry)))) (now (window .entry)) ⌝ }
 {
     let decision = loader::load(submission, operator, map, window, first);
     write_plan(plan, decision);
@@ -67,7 +68,7 @@ pub extern "C" fn viertompu_load<'a>(
 }
 
 // Writes all words of a decision.
-pub fn write_plan(plan: &mut [u32; WORDS], decision: Decision)
+pub(crate) fn write_plan(plan: &mut [u32; WORDS], decision: Decision)
     ensures { λ _. ⌜ now (plan .exit) ≡ planWords decision ⌝ }
 {
     *plan = [0; WORDS];

@@ -2,13 +2,12 @@
 -- Assumes nothing.
 use mathlib.Core.Path.{_≡_, sym, _∙_}
 use mathlib.Core.Bool.{true}
-use Prim.Native.Nat.{ℕ, _-_, _≤_, _<_}
+use Prim.Native.Nat.{ℕ, _-_, _<_}
 use native.Mathlib.Omega.{arith}
 use borrow.Author.Tests.{not-true, not-false}
 use borrow.Author.Needs.{needs}
 use Rattle.laws.specs.TestLaws.{all-intro, all-not}
 use Rattle.edge.specs.PassLaws.{AllPass, pass-start, pass-on}
-use Rattle.usable.specs.Usable.{addressSpace}
 use Rattle.board.specs.declared.Board.{Board}
 use Rattle.board.specs.Open.{isOpen}
 use Rattle.board.specs.OpenEdge.{openEdge}
@@ -18,9 +17,9 @@ use Rattle.board.proofs.all_open.Statement.{statement}
 use Rattle.board.proofs.all_open.Tie as tie
 
 -- x is open, so the edge lies past it, and what lies before the edge is open too
-further : (b : Board) (a x r : ℕ) → b .window .end .0 ≤ addressSpace → AllPass (isOpen b) a x → isOpen b x ≡ true → r ≡ openEdge b x → (x < r) × AllPass (isOpen b) a r
-further b a x r l h f q =
-    let g = open-edge-at b x (open-is b x .0 f .window .1) l r q in
+further : (b : Board) (a x r : ℕ) → AllPass (isOpen b) a x → isOpen b x ≡ true → r ≡ openEdge b x → (x < r) × AllPass (isOpen b) a r
+further b a x r h f q =
+    let g = open-edge-at b x (open-is b x .0 f .window .1) r q in
     (g .past, pass-on _ _ _ h g f)
 
 abbrev Inv-loop : tie.InvT-loop
@@ -48,14 +47,14 @@ loop-less : tie.Need-loop-less Inv-loop μ-loop
 loop-less c =
     let v = c .before .before .before .before .before .before .loop .inv in
     let f = sym (c .before .before .is-open .ensures) ∙ not-false _ (c .before .if2 .left) in
-    let g = further _ _ _ _ (search needs) v f (c .open-edge .ensures) in
+    let g = further _ _ _ _ v f (c .open-edge .ensures) in
     omega arith
 
 loop-again : tie.Need-loop-again Inv-loop μ-loop
 loop-again c =
     let v = c .before .before .before .before .before .before .loop .inv in
     let f = sym (c .before .before .is-open .ensures) ∙ not-false _ (c .before .if2 .left) in
-    further _ _ _ _ (search needs) v f (c .open-edge .ensures) .1
+    further _ _ _ _ v f (c .open-edge .ensures) .1
 
 returns-2 : tie.Need-returns-2 Inv-loop μ-loop
 returns-2 c =

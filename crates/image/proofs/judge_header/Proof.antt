@@ -42,7 +42,7 @@ add-read-u32 : tie.Need-add-read-u32
 add-read-u32 c = omega (arith, inside (c .before))
 
 read-u32-requires : tie.Need-read-u32-requires
-read-u32-requires c κs = omega (arith, inside (c .before))
+read-u32-requires c κs = search needs
 
 unknown-request-requires : tie.Need-unknown-request-requires
 unknown-request-requires c κs = search needs
@@ -81,7 +81,9 @@ returns-3 c =
     c .refused3 .ensures ∙ cut-off (found (first .before .before)) (told (first .before .unknown-request .ensures) (first .if1 .left)) (told (second .before .no-addresses .ensures) (second .if2 .left)) (told (third .before .cut-off .ensures) (third .if3 .taken))
 
 read-fields-requires : tie.Need-read-fields-requires
-read-fields-requires c κs = not-cut-off _ _ (told (c .before .cut-off .ensures) (c .if3 .left)) .1
+read-fields-requires c κs =
+    let start = c .before .before .before .before .before .before .before .before in
+    omega (arith, not-cut-off (start .args .at .0) (length (start .args .image .now)) (told (c .before .cut-off .ensures) (c .if3 .left)) .0)
 
 load-offset-requires : tie.Need-load-offset-requires
 load-offset-requires c κs = search needs

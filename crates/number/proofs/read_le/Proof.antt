@@ -31,35 +31,29 @@ bounded : (c : tie.In-loop Inv-loop μ-loop) → c .before .loop .value < 2 ^ 56
 bounded c =
     let at-loop = c .before in
     let at-start = at-loop .before .before in
-    read-room (at-start .args .s .now) (at-start .args .at) (at-start .args .width) (at-loop .loop .i) (at-loop .loop .value) (at-loop .loop .inv .1) (is-bytes c) (at-start .pre .0) (c .loop-test .taken)
+    read-room (at-start .args .s .now) (at-start .args .at) (at-start .args .width) (at-loop .loop .i) (at-loop .loop .value) (at-loop .loop .inv .1) (is-bytes c) (at-start .pre) (c .loop-test .taken)
 
 mul-value : tie.Need-mul-value Inv-loop μ-loop
 mul-value c = omega (arith, bounded c)
 
-sub-wide : tie.Need-sub-wide Inv-loop μ-loop
-sub-wide c = search needs
+sub-byte-at : tie.Need-sub-byte-at Inv-loop μ-loop
+sub-byte-at c = search needs
 
-add-wide : tie.Need-add-wide Inv-loop μ-loop
-add-wide c = search needs
-
-shared-slice-read-wide : tie.Need-shared-slice-read-wide Inv-loop μ-loop
-shared-slice-read-wide c = search needs
-
-wide-requires : tie.Need-wide-requires Inv-loop μ-loop
-wide-requires c κs = search needs
+byte-at-requires : tie.Need-byte-at-requires Inv-loop μ-loop
+byte-at-requires c κs = search needs
 
 add-value : tie.Need-add-value Inv-loop μ-loop
-add-value c = omega (arith, bounded (c .before .before))
+add-value c = omega (arith, bounded (c .before))
 
 loop-less : tie.Need-loop-less Inv-loop μ-loop
 loop-less c = search needs
 
 loop-again : tie.Need-loop-again Inv-loop μ-loop
 loop-again c =
-    let at-loop = c .before .before .before in
+    let at-loop = c .before .before in
     let at-start = at-loop .before .before in (
       search needs,
-      cc (read-more (at-start .args .s .now) (at-start .args .at) (at-start .args .width) (at-loop .loop .i) (at-loop .loop .value) (at-loop .loop .inv .1) (c .before .before .loop-test .taken)),
+      cc (read-more (at-start .args .s .now) (at-start .args .at) (at-start .args .width) (at-loop .loop .i) (at-loop .loop .value) (at-loop .loop .inv .1) (c .before .loop-test .taken)),
     )
 
 returns : tie.Need-returns Inv-loop μ-loop
@@ -79,10 +73,8 @@ read-le-spec =
     loop-holds
     add-i
     mul-value
-    sub-wide
-    add-wide
-    shared-slice-read-wide
-    wide-requires
+    sub-byte-at
+    byte-at-requires
     add-value
     loop-less
     loop-again

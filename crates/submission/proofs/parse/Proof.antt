@@ -7,10 +7,9 @@ use borrow.Author.Tests.{not-true, not-false}
 use borrow.Author.Needs.{needs}
 use Rattle.answer.specs.declared.Answer.the-variants.{Load}
 use Rattle.submission.specs.Rules.{isSubmission}
-use Rattle.submission.specs.RuleLaws.{header-inside}
 use Rattle.submission.specs.declared.Layout.{Layout}
 use Rattle.submission.specs.declared.ParsedSubmission.{ParsedSubmission}
-use Rattle.submission.proofs.ParseLaws.{too-many, table-outside, not-parsed, bad-parsed, good-parsed}
+use Rattle.submission.proofs.ParseLaws.{too-many, not-parsed, bad-parsed, good-parsed}
 use Rattle.submission.proofs.parse.Statement.{statement}
 use Rattle.submission.proofs.parse.Tie as tie
 
@@ -33,7 +32,7 @@ returns c =
     c .refused .ensures ∙ not-parsed (judged .before .before .args .s .now) (sym (judged .is-submission .ensures) ∙ not-true _ (c .before .if1 .taken))
 
 module-count-requires : tie.Need-module-count-requires
-module-count-requires c κs = header-inside (c .before .before .before .args .s .now) (marked c)
+module-count-requires c κs = search needs
 
 refused-requires-2 : tie.Need-refused-requires-2
 refused-requires-2 c κs = search needs
@@ -44,40 +43,28 @@ returns-2 c =
     let s = first .before .before .before .args .s .now in
     c .refused2 .ensures ∙ bad-parsed s (marked first) (too-many s (omega arith))
 
-entry-offset-requires : tie.Need-entry-offset-requires
-entry-offset-requires c κs = search needs
-
-refused-requires-3 : tie.Need-refused-requires-3
-refused-requires-3 c κs = search needs
-
-returns-3 : tie.Need-returns-3
-returns-3 c =
-    let first = c .before .before .before .before .before in
-    let s = first .before .before .before .args .s .now in
-    c .refused3 .ensures ∙ bad-parsed s (marked first) (table-outside s (omega arith))
-
 read-layout-requires : tie.Need-read-layout-requires
 read-layout-requires c κs = search needs
 
 rules-hold-requires : tie.Need-rules-hold-requires
 rules-hold-requires c κs = search needs
 
-refused-requires-4 : tie.Need-refused-requires-4
-refused-requires-4 c κs = search needs
+refused-requires-3 : tie.Need-refused-requires-3
+refused-requires-3 c κs = search needs
+
+returns-3 : tie.Need-returns-3
+returns-3 c =
+    let judged = c .before .before in
+    let first = judged .before .before .before .before .before in
+    let s = first .before .before .before .args .s .now in
+    c .refused3 .ensures ∙ bad-parsed s (marked first) (sym (judged .rules-hold .ensures) ∙ not-true _ (c .before .if3 .taken))
 
 returns-4 : tie.Need-returns-4
 returns-4 c =
-    let judged = c .before .before in
-    let first = judged .before .before .before .before .before .before .before in
-    let s = first .before .before .before .args .s .now in
-    c .refused4 .ensures ∙ bad-parsed s (marked first) (sym (judged .rules-hold .ensures) ∙ not-true _ (c .before .if4 .taken))
-
-returns-5 : tie.Need-returns-5
-returns-5 c =
     let judged = c .before in
-    let first = judged .before .before .before .before .before .before .before in
+    let first = judged .before .before .before .before .before in
     let s = first .before .before .before .args .s .now in
-    ap loaded (judged .before .before .read-layout .ensures .0) ∙ good-parsed s (marked first) (sym (judged .rules-hold .ensures) ∙ not-false _ (c .if4 .left))
+    ap loaded (judged .before .before .read-layout .ensures .0) ∙ good-parsed s (marked first) (sym (judged .rules-hold .ensures) ∙ not-false _ (c .if3 .left))
 
 pub parse-spec : {M : Type 1} → statement M
 parse-spec =
@@ -89,11 +76,8 @@ parse-spec =
     module-count-requires
     refused-requires-2
     returns-2
-    entry-offset-requires
-    refused-requires-3
-    returns-3
     read-layout-requires
     rules-hold-requires
-    refused-requires-4
-    returns-4
-    returns-5)
+    refused-requires-3
+    returns-3
+    returns-4)

@@ -1,6 +1,5 @@
 -- `loader::write::write_block` meets its contract: the block's parts, as they are read.
 -- Assumes nothing.
-use Rattle.memory_map.specs.PairsLaws.{parsed-pairs}
 use Rattle.loader.proofs.TurnLaws.{block-room, block-written}
 use borrow.Author.Needs.{needs}
 use Rattle.loader.proofs.write.write_block.Statement.{statement}
@@ -13,10 +12,10 @@ parse-requires : tie.Need-parse-requires
 parse-requires c κs = search needs
 
 mem-lower-requires : tie.Need-mem-lower-requires
-mem-lower-requires c κs = rw (c .before .parse .ensures) (parsed-pairs _)
+mem-lower-requires c κs = search needs
 
 mem-upper-requires : tie.Need-mem-upper-requires
-mem-upper-requires c κs = rw (c .before .before .parse .ensures) (parsed-pairs _)
+mem-upper-requires c κs = search needs
 
 offset-from-requires : tie.Need-offset-from-requires
 offset-from-requires c κs = search needs

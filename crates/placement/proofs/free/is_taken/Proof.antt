@@ -1,21 +1,26 @@
 -- `placement::free::is_taken` meets its contract: of the first i spans none holds the address.
 -- Assumes nothing.
-use mathlib.Core.Path.{_≡_, sym, ap, _∙_}
+use mathlib.Core.Path.{_≡_, sym, _∙_}
 use mathlib.Core.Bool.{false}
 use Prim.Native.Nat.{_≤_, _-_}
 use native.Mathlib.Omega.{arith}
 use borrow.Author.Needs.{needs}
+use lib.ListN.{length, length-map}
 use Rattle.laws.specs.Tests.{any}
 use Rattle.laws.specs.TestLaws.{any-zero, any-more, any-here}
-use Rattle.placement.specs.Free.{takenBy, isTaken}
+use Rattle.placement.specs.Free.{maxSpans, takenBy, isTaken}
+use Rattle.placement.proofs.TakenLaws.{taken-end}
 use Rattle.placement.proofs.free.is_taken.Statement.{statement}
 use Rattle.placement.proofs.free.is_taken.Tie as tie
 
 abbrev Inv-loop : tie.InvT-loop
-Inv-loop a taken i₀ i = (i ≤ taken .count) × (any (takenBy taken (a .0)) i ≡ false)
+Inv-loop a taken n i₀ i = (i ≤ n) × (any (takenBy taken (a .0)) i ≡ false)
 
 abbrev μ-loop : tie.MeasureT-loop
-μ-loop a taken i₀ i = taken .count - i
+μ-loop a taken n i₀ i = n - i
+
+len-requires : tie.Need-len-requires Inv-loop μ-loop
+len-requires c κs = search needs
 
 loop-holds : tie.Need-loop-holds Inv-loop μ-loop
 loop-holds c = (search needs, any-zero _)
@@ -46,10 +51,12 @@ unfolding takenBy
 loop-again c = (search needs, any-more _ _ ∙ (cc))
 
 returns-2 : tie.Need-returns-2 Inv-loop μ-loop
-unfolding isTaken
 returns-2 c =
-    let e : c .before .loop .i ≡ c .before .before .args .t1 .count = omega arith in
-    sym (c .before .loop .inv .1) ∙ ap (any _) e
+    let loop = c .before .loop in
+    let start = c .before .before .before in
+    -- the array's length
+    let n : length (start .args .t1 .list) ≡ maxSpans = simp length-map at (start .good .0 .1 .1 .0 .1 .0 .1) in
+    taken-end (start .args .t1) (loop .i) n (omega arith) (omega arith) (start .args .a .0) (loop .inv .1)
 
 pub is-taken-spec : {M : Type 1} → statement M
 is-taken-spec =
@@ -57,6 +64,7 @@ is-taken-spec =
     (tie.spec
     Inv-loop
     μ-loop
+    len-requires
     loop-holds
     mul-span
     element-copy-out-span

@@ -4,18 +4,23 @@ use mathlib.Core.Path.{_≡_, sym, ap, _∙_}
 use Prim.Native.Nat.{_≤_, _-_}
 use native.Mathlib.Omega.{arith}
 use borrow.Author.Needs.{needs}
+use lib.ListN.{length, length-map}
 use Rattle.edge.specs.Edge.{spanEdge, edgeUpTo}
 use Rattle.edge.specs.EdgeLaws.{edge-none, edge-more}
 use Rattle.address.specs.Address.{spanNo}
-use Rattle.placement.specs.FreeEdge.{takenEdge}
+use Rattle.placement.specs.Free.{maxSpans}
+use Rattle.placement.proofs.TakenLaws.{edge-end}
 use Rattle.placement.proofs.free.taken_edge.Statement.{statement}
 use Rattle.placement.proofs.free.taken_edge.Tie as tie
 
 abbrev Inv-loop : tie.InvT-loop
-Inv-loop x taken f₀ i₀ f i = (i ≤ taken .count) × (f .0 ≡ edgeUpTo (λ j. spanNo (taken .list) j .start .0) (λ j. spanNo (taken .list) j .end .0) (x .0) (f₀ .0) i)
+Inv-loop x taken n f₀ i₀ f i = (i ≤ n) × (f .0 ≡ edgeUpTo (λ j. spanNo (taken .list) j .start .0) (λ j. spanNo (taken .list) j .end .0) (x .0) (f₀ .0) i)
 
 abbrev μ-loop : tie.MeasureT-loop
-μ-loop x taken f₀ i₀ f i = taken .count - i
+μ-loop x taken n f₀ i₀ f i = n - i
+
+len-requires : tie.Need-len-requires Inv-loop μ-loop
+len-requires c κs = search needs
 
 loop-holds : tie.Need-loop-holds Inv-loop μ-loop
 loop-holds c = (search needs, sym (edge-none _ _ _ _))
@@ -40,10 +45,12 @@ loop-again c =
     (search needs, c .span-edge .ensures ∙ (ap (spanEdge _ _ _) (c .before .before .before .loop .inv .1) ∙ sym (edge-more _ _ _ _ _)))
 
 returns : tie.Need-returns Inv-loop μ-loop
-unfolding takenEdge
 returns c =
-    let e : c .before .loop .i ≡ c .before .before .args .t1 .count = omega arith in
-    c .before .loop .inv .1 ∙ ap (edgeUpTo _ _ _ _) e
+    let loop = c .before .loop in
+    let start = c .before .before .before in
+    -- the array's length
+    let n : length (start .args .t1 .list) ≡ maxSpans = simp length-map at (start .good .0 .1 .1 .0 .1 .0 .1) in
+    edge-end (start .args .t1) (loop .i) n (omega arith) (omega arith) (start .args .x .0) (start .args .e .0) _ (loop .inv .1)
 
 pub taken-edge-spec : {M : Type 1} → statement M
 taken-edge-spec =
@@ -51,6 +58,7 @@ taken-edge-spec =
     (tie.spec
     Inv-loop
     μ-loop
+    len-requires
     loop-holds
     mul-span
     element-copy-out-span

@@ -35,10 +35,7 @@ element-copy-out-item : tie.Need-element-copy-out-item Inv-loop μ-loop
 element-copy-out-item c = search needs
 
 lowest-place-requires : tie.Need-lowest-place-requires Inv-loop μ-loop
-lowest-place-requires c κs =
-    let p = c .before .before .before .pre in
-    let s = p .each (c .before .before .loop .i) (c .before .loop-test .taken) in
-    search needs
+lowest-place-requires c κs = search needs
 
 enum-known-place : tie.Need-enum-known-place Inv-loop μ-loop
 enum-known-place c = search needs

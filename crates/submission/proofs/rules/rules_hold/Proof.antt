@@ -36,7 +36,7 @@ returns c =
 entries-hold-requires : tie.Need-entries-hold-requires
 entries-hold-requires c κs =
     let at-start = c .before .before .before .before in
-    rw (count-is (at-start .args .s .now) (at-start .args .l) (at-start .pre .0)) (at-start .pre .2, at-start .pre .3)
+    rw (count-is (at-start .args .s .now) (at-start .args .l) (at-start .pre .0)) (at-start .pre .2)
 
 returns-2 : tie.Need-returns-2
 returns-2 c =

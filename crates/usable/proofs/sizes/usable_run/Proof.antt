@@ -25,7 +25,7 @@ ended f a x k h l q =
 -- x is usable, and so is what lies before the edge
 further : (m : MemMap) (a x r : ℕ) → x < addressSpace → AllPass (isUsable m) a x → isUsable m x ≡ true → r ≡ mapEdge m x addressSpace → (x < r) × (r ≤ addressSpace) × AllPass (isUsable m) a r
 further m a x r l h f q =
-    let g = map-edge-at m x addressSpace l r q (omega arith) in
+    let g = map-edge-at m x addressSpace l r q in
     (g .past, g .near, pass-on _ _ _ h g f)
 
 abbrev Inv-loop : tie.InvT-loop
