@@ -1,2 +1,2 @@
--- The definition that the contract of `review` cites.
+-- The definitions that the contracts of `review` cite.
 pub mod Review

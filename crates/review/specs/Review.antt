@@ -1,15 +1,21 @@
--- What the program prints for a submission.                                                            rule: REVIEW
+-- What the program prints for what it reads.                                                           rule: REVIEW
 --     pairBytes, boardMap              the board's memory map
 --     firstAddress, windowLength       the window
 --     lentWith                         what is lent with a submission
 --     reviewOf                         the report on it
+--     maxInput, overMessage            the longest input that is reviewed, and what is printed for a longer one
+--     printedFor                       the message or the report
 -- Assumes nothing.
-use mathlib.Core.List.{List, [], _++_}
+use mathlib.Core.Bool.{cond}
+use mathlib.Core.List.{List, [], _∷_, _++_}
 use Prim.Native.Nat.{ℕ}
+use lib.Dec.{ltb}
+use lib.ListN.{length}
 use Rattle.number.specs.Number.{numberBytes}
 use Rattle.decision.specs.Lent.{Lent}
 use Rattle.decision.specs.Decision.{decisionOf}
 use Rattle.viertompu.specs.Words.{planWords}
+use Rattle.report.specs.Text.{blank, newline}
 use Rattle.report.specs.Report.{reportOf}
 
 -- a pair of size 20: base, length, and type 1 for usable memory
@@ -31,3 +37,14 @@ lentWith s = record { submission = s; operator = []; map = boardMap; first = fir
 
 unfoldable pub reviewOf : List ℕ → List ℕ
 reviewOf s = reportOf (planWords (decisionOf (lentWith s)))
+
+abbrev pub maxInput : ℕ
+maxInput = 12288
+
+-- `input over 12288 bytes`, and the end of the line
+abbrev pub overMessage : List ℕ
+overMessage = 105 ∷ 110 ∷ 112 ∷ 117 ∷ 116 ∷ blank ∷ 111 ∷ 118 ∷ 101 ∷ 114 ∷ blank ∷ 49 ∷ 50 ∷ 50 ∷ 56 ∷ 56 ∷ blank ∷ 98 ∷ 121 ∷ 116 ∷ 101 ∷ 115 ∷ newline ∷ []
+
+-- what is printed where the bytes s were read
+unfoldable pub printedFor : List ℕ → List ℕ
+printedFor s = cond (ltb maxInput (length s)) overMessage (reviewOf s)

@@ -1,13 +1,18 @@
 // Reviews a submission from standard input: loads it on a fixed board and prints where everything lies, or the refusal.
 use libc::STDIN_FILENO;
 use libc::STDOUT_FILENO;
+ghost use mathlib.Core.Path.{_≡_};
 ghost use Prim.Native.Nat.{_≤_};
+ghost use lib.ListN.{length, take};
 ghost use Rattle.report.specs.Text.{Wrote};
 ghost use Rattle.report.specs.Report.{maxReport};
-ghost use Rattle.review.specs.Review.{reviewOf};
+ghost use Rattle.review.specs.Review.{reviewOf, printedFor};
 
-// The longest submission that is read.
-const INPUT: usize = 12288;
+// A longer input is not reviewed.
+const MAX_INPUT: usize = 12288;
+
+// One byte more is read, so that a longer input is seen.
+const READ: usize = MAX_INPUT + 1;
 
 // The board's memory map as words: two pairs of size 20, of usable memory, with 0x9FC00 bytes from 0 on and 0x700000 bytes
 // from 0x100000 on.
@@ -22,20 +27,27 @@ const FIRST: u32 = 0x100000;
 const WINDOW: usize = 49152;
 
 fn main() {
-    // One byte more than may come, so that a longer input is seen.
-    let mut input = [0; INPUT + 1];
+    let mut input = [0; READ];
     let n = io::read_full(STDIN_FILENO, &mut input);
-    if INPUT < n {
-        io::write_all(STDOUT_FILENO, b"input over 12288 bytes\n");
-        return;
-    }
     let mut text = [0; report::MAX_REPORT];
-    let end = review(&input[..n], &mut text);
+    let end = review(&input, n, &mut text);
     io::write_all(STDOUT_FILENO, &text[..end]);
 }
 
+// Writes what is printed for the n bytes that were read, and gives its length.
+fn review(input: &[u8; READ], n: usize, text: &mut [u8; report::MAX_REPORT]) -> usize
+    ensures { λ r. ⌜ take r (now (text .exit)) ≡ printedFor (take n (now (input .entry))) ⌝ }
+    ensures { λ r. ⌜ r ≤ length (now (text .exit)) ⌝ }
+{
+    let bytes: &[u8] = input;
+    if MAX_INPUT < n {
+        return report::write_text(text, 0, b"input over 12288 bytes\n");
+    }
+    report_on(&bytes[..n], text)
+}
+
 // Writes the report on a submission, and gives its length.
-fn review(submission: &[u8], text: &mut [u8]) -> usize
+fn report_on(submission: &[u8], text: &mut [u8]) -> usize
     ensures { λ r. ⌜ Wrote (now (text .entry)) 0 (reviewOf (now (submission .entry))) (now (text .exit)) r ⌝ }
     ensures { λ r. ⌜ r ≤ maxReport ⌝ }
 {

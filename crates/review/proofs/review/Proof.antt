@@ -1,59 +1,41 @@
--- `review::review` meets its contract: the plan of a load on the board, reported.
+-- `review::review` meets its contract: the message where too much was read, else the report.
 -- Assumes nothing.
-use Prim.Native.Nat.{ℕ}
-use lib.ListN.{length-replicate}
-use Rattle.review.specs.Review.{windowLength}
-use Rattle.review.proofs.ReviewLaws.{map-is, reviewed}
+use native.Mathlib.Omega.{arith}
+use lib.ListN.{length-take}
 use borrow.Author.Needs.{needs}
+use Rattle.review.proofs.ReviewLaws.{printed-over, printed-within, take-wrote}
 use Rattle.review.proofs.review.Statement.{statement}
 use Rattle.review.proofs.review.Tie as tie
 
-slice-aggregate-write-words : tie.Need-slice-aggregate-write-words
-slice-aggregate-write-words c = search needs
+slice-aggregate-write-text : tie.Need-slice-aggregate-write-text
+slice-aggregate-write-text c = search needs
 
-slice-aggregate-write-words-2 : tie.Need-slice-aggregate-write-words-2
-slice-aggregate-write-words-2 c = search needs
-
-write-words-requires : tie.Need-write-words-requires
-write-words-requires c κs = search needs
-
-slice-aggregate-viertompu-load : tie.Need-slice-aggregate-viertompu-load
-slice-aggregate-viertompu-load c = search needs
-
-slice-aggregate-viertompu-load-2 : tie.Need-slice-aggregate-viertompu-load-2
-slice-aggregate-viertompu-load-2 c = search needs
-
-slice-aggregate-viertompu-load-3 : tie.Need-slice-aggregate-viertompu-load-3
-slice-aggregate-viertompu-load-3 c = search needs
-
-viertompu-load-requires : tie.Need-viertompu-load-requires
-viertompu-load-requires c κs = search needs
-
-write-report-requires : tie.Need-write-report-requires
-write-report-requires c κs = search needs
-
-same-length : tie.Need-same-length
-same-length c = search needs
+write-text-requires : tie.Need-write-text-requires
+write-text-requires c κs = search needs
 
 returns : tie.Need-returns
 returns c =
-    let reported = c .before .before in
-    let loaded = reported .before .before .before .before in
-    let mapped = loaded .before .before .before .before .before .before in
-    let start = mapped .before .before .before .before .before .args in
-    (reviewed (start .submission .now) _ _ _ (start .text .now) _ _ (map-is _ (mapped .write-words .ensures)) (length-replicate {A = ℕ} windowLength 0) (loaded .viertompu-load .ensures .1 .0) (reported .write-report .ensures .0), reported .write-report .ensures .1)
+    let start = c .before .before .before .before .before .args in
+    take-wrote _ _ _ _ _ (printed-over (start .input .now) (start .n) (omega arith) (omega arith)) (c .write-text .ensures) (omega arith)
+
+slice-aggregate-report-on : tie.Need-slice-aggregate-report-on
+slice-aggregate-report-on c = simp length-take (omega arith)
+
+report-on-requires : tie.Need-report-on-requires
+report-on-requires c κs = search needs
+
+returns-2 : tie.Need-returns-2
+returns-2 c =
+    let start = c .before .before .before .before .before .args in
+    take-wrote _ _ _ _ _ (printed-within (start .input .now) (start .n) (omega arith)) (c .report-on .ensures .0) (omega arith)
 
 pub review-spec : {M : Type 1} → statement M
 review-spec =
     tie.close
     (tie.spec
-    slice-aggregate-write-words
-    slice-aggregate-write-words-2
-    write-words-requires
-    slice-aggregate-viertompu-load
-    slice-aggregate-viertompu-load-2
-    slice-aggregate-viertompu-load-3
-    viertompu-load-requires
-    write-report-requires
-    same-length
-    returns)
+    slice-aggregate-write-text
+    write-text-requires
+    returns
+    slice-aggregate-report-on
+    report-on-requires
+    returns-2)
