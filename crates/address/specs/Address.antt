@@ -3,14 +3,10 @@
 --     floor, top                where placing begins, and where a window ends at the latest
 --     isMultiple, roundUp       meeting a boundary, and rounding up to it
 --     inside                    lying in a span
---     noSpan, spanNo            a span of zeros, and the span of an index
 -- Assumes nothing.
 use mathlib.Core.Bool.{Bool, true, false, cond, _&&_}
-use mathlib.Core.List.{List}
 use Prim.Native.Nat.{ℕ, _+_, _-_, _%_}
 use lib.Dec.{eqb, leb, ltb}
-use lib.ListN.{getD}
-use Rattle.address.specs.declared.Span.{Span}
 
 abbrev pub page : ℕ
 page = 4096
@@ -40,9 +36,3 @@ roundUp a b = cond (isMultiple b a) a (a + (b - a % b))
 -- the address a lies from start up to but not including end
 unfoldable pub inside : ℕ → ℕ → ℕ → Bool
 inside start end a = leb start a && ltb a end
-
-abbrev pub noSpan : Span
-noSpan = record { start = record { 0 = 0 }; end = record { 0 = 0 } }
-
-abbrev pub spanNo : List Span → ℕ → Span
-spanNo spans i = getD spans i noSpan

@@ -1,5 +1,4 @@
 -- Lying in a span, in propositions.
---     Holds        the span holds the address: from its start up to but not including its end
 --     inside-is    the test is true exactly there
 -- Assumes nothing.
 use mathlib.Core.Path.{_≡_}
@@ -10,10 +9,6 @@ use borrow.Author.Tests.{lt-ltb, ltb-true, le-leb, leb-true}
 use lib.Dec.{leb, ltb}
 use Rattle.laws.specs.TestLaws.{and-left, and-right}
 use Rattle.address.specs.Address.{inside}
-use Rattle.address.specs.declared.Span.{Span}
-
-abbrev pub Holds : Span → ℕ → Type 0
-Holds s a = (s .start .0 ≤ a) × (a < s .end .0)
 
 pub inside-is : (start end a : ℕ) → (inside start end a ≡ true) ↔ ((start ≤ a) × (a < end))
 unfolding inside

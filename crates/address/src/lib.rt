@@ -2,7 +2,8 @@
 ghost use mathlib.Core.Path.{_≡_};
 ghost use Prim.Native.Nat.{_-_, _<_, _^_};
 ghost use lib.Dec.{ltb};
-ghost use Rattle.address.specs.Address.{top, boundaryOf, floor, roundUp, inside, noSpan};
+ghost use Rattle.address.specs.Address.{top, boundaryOf, floor, roundUp, inside};
+ghost use Rattle.address.specs.Span.{noSpan};
 
 // A physical address, or the end of a span of them: an exact whole number.
 pub struct PhysAddr(pub u64);

@@ -1,7 +1,10 @@
 -- Laws of the numbered answers.
---     item-none    every answer but 16 has the item 0
+--     item-none      every answer but 16 has the item 0
+--     number-most    there are 17 refusals
 -- Assumes nothing.
 use mathlib.Core.Path.{_≡_, refl}
+use Prim.Native.Nat.{_≤_}
+use native.Mathlib.Omega.{arith}
 use Rattle.answer.specs.Answer.{numberOf, itemOf}
 use Rattle.answer.specs.declared.Answer.{Answer}
 use Rattle.answer.specs.declared.Answer.the-variants.{Load, NotASubmission, BadSubmission, BadOperatorLine, WindowPastTop, BadMemoryMap, NoHeader, UnknownRequest, NoAddressFields, HeaderCutOff, LoadBeforeImage, NothingToLoad, LoadPastImage, BssBelowLoadEnd, EntryOutsideLoad, KernelNotOpen, NoRoomForModule, NoRoomForBlock}
@@ -25,3 +28,23 @@ item-none EntryOutsideLoad h = refl
 item-none KernelNotOpen h = refl
 item-none (NoRoomForModule i) h = absurd (h refl)
 item-none NoRoomForBlock h = refl
+
+pub number-most : (a : Answer) → numberOf a ≤ 17
+number-most Load = omega arith
+number-most NotASubmission = omega arith
+number-most BadSubmission = omega arith
+number-most BadOperatorLine = omega arith
+number-most WindowPastTop = omega arith
+number-most BadMemoryMap = omega arith
+number-most NoHeader = omega arith
+number-most UnknownRequest = omega arith
+number-most NoAddressFields = omega arith
+number-most HeaderCutOff = omega arith
+number-most LoadBeforeImage = omega arith
+number-most NothingToLoad = omega arith
+number-most LoadPastImage = omega arith
+number-most BssBelowLoadEnd = omega arith
+number-most EntryOutsideLoad = omega arith
+number-most KernelNotOpen = omega arith
+number-most (NoRoomForModule i) = omega arith
+number-most NoRoomForBlock = omega arith

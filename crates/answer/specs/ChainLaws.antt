@@ -1,14 +1,14 @@
 -- Stages of checks, one after the other: a chain answers with its first refusal.
---     refuses                  every check of a chain has a refusal for its answer
---     chain-append             where a stage does not refuse, the next one decides
---     or-else-first, -second, -same, -load    laws of the first of two answers that refuses
---     passes-is, load-is       a stage passes exactly where its answer is a load; that answer is Load
---     check-passed             in a chain that ends in a load no check applied
+--     refuses                                   every check of a chain has a refusal for its answer
+--     chain-append                              where a stage does not refuse, the next one decides
+--     or-else-first, -second, -same, -load      laws of the first of two answers that refuses
+--     passes-is, load-is                        a stage passes exactly where its answer is a load; that answer is Load
+--     check-passed                              in a chain that ends in a load no check applied
 --     appliesNo, applies-front, applies-past    the check of an index, in a chain's first part and past its end
 --     answerNo, First, first-answer             the first check that applies gives its answer
---     numberedFrom             checks that are numbered one after the other
---     number-given, number-first    a number is given exactly where its check is the first that applies
---     none-given, none-applies      0 is given exactly where none applies
+--     numberedFrom                              checks that are numbered one after the other
+--     number-given, number-first                a number is given exactly where its check is the first that applies
+--     none-given, none-applies                  0 is given exactly where none applies
 -- Assumes nothing.
 use mathlib.Core.Path.{_≡_, refl, sym, _∙_}
 use mathlib.Core.Bool.{Bool, true, false, cond, not, _&&_, false≢true}
@@ -25,6 +25,7 @@ use Rattle.laws.specs.TestLaws.{and-left, and-right}
 use Rattle.answer.specs.Answer.{numberOf, isLoad, orElse}
 use Rattle.answer.specs.declared.Answer.{Answer}
 use Rattle.answer.specs.declared.Answer.the-variants.{Load}
+use Rattle.answer.specs.Chain.{appliesNo, First}
 
 unfoldable pub refuses : List (Check Answer) → Bool
 refuses [] = true
@@ -91,12 +92,6 @@ unfolding firstOf
 check-passed true a ks n e = let z : isLoad a ≡ true = rw e in absurd (false≢true (sym n ∙ z))
 check-passed false a ks n e = (refl, e)
 
--- whether the check of the index k applies
-abbrev pub appliesNo : List (Check Answer) → ℕ → Bool
-appliesNo [] k = false
-appliesNo (c ∷ ks) zero = c .applies
-appliesNo (c ∷ ks) (suc k) = appliesNo ks k
-
 -- the checks of a chain's first part
 pub applies-front : (ks ls : List (Check Answer)) (k : ℕ) → k < length ks → appliesNo (ks ++ ls) k ≡ appliesNo ks k
 applies-front [] ls k l = absurd (omega arith)
@@ -113,11 +108,6 @@ abbrev pub answerNo : List (Check Answer) → ℕ → Answer
 answerNo [] k = Load
 answerNo (c ∷ ks) zero = c .answer
 answerNo (c ∷ ks) (suc k) = answerNo ks k
-
--- the check of the index k is the first that applies
-pub record First (ks : List (Check Answer)) (k : ℕ) : Type 0 where
-  pub applies : appliesNo ks k ≡ true
-  pub earliest : (j : ℕ) → j < k → appliesNo ks j ≡ false
 
 -- the first check that applies gives the answer
 pub first-answer : (ks : List (Check Answer)) (k : ℕ) → First ks k → firstOf ks Load ≡ answerNo ks k

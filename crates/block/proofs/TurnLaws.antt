@@ -5,17 +5,18 @@ use mathlib.Core.List.{List, [], _∷_, _++_}
 use Prim.Native.Nat.{ℕ, _+_, _*_, _-_, _≤_, _<_}
 use native.Mathlib.Omega.{arith}
 use lib.ListN.{length, take, drop, length-append}
+use Rattle.laws.specs.TableLaws.{length-listed, listed-more}
 use Rattle.buffer.specs.Patched.{patched}
 use Rattle.buffer.specs.PatchedLaws.{patched-append}
 use Rattle.number.specs.Number.{wordBytes}
-use Rattle.laws.specs.TableLaws.{length-listed, listed-more}
 use Rattle.number.specs.NumberLaws.{length-wordBytes, wordBytes-append}
 use Rattle.address.specs.declared.Span.{Span}
-use Rattle.address.specs.Address.{spanNo}
+use Rattle.address.specs.Span.{spanNo}
 use Rattle.submission.specs.declared.Layout.{Layout}
-use Rattle.submission.specs.Format.{moduleNo}
+use Rattle.submission.specs.Layout.{moduleNo}
 use Rattle.block.specs.declared.Structure.{Structure}
-use Rattle.block.specs.Block.{structureSize, structureWords, loaderName, textSize, mapOffset, stringsOffset, structureFor, partsOf, blockOf, contentsOf, moduleEntrySize, addressOf, textBytes, textsSize, entryWords, entries, texts, stringLengths}
+use Rattle.block.specs.Block.{structureSize, structureWords, loaderName, mapOffset, stringsOffset, structureFor, partsOf, blockOf, contentsOf, moduleEntrySize, addressOf, textBytes, textsSize, entryWords, entries, texts, stringLengths}
+use Rattle.block.specs.TextSize.{textSize}
 use Rattle.block.specs.TextLaws.{length-textBytes, text-some, texts-more, entries-more, length-entries}
 use Rattle.block.specs.Writing.{moduleEntryNo, entriesOf, stringsOf, StringsIn}
 use Rattle.block.specs.WritingLaws.{entryTexts, block-is, length-strings}

@@ -1,23 +1,22 @@
 -- The information block as one list of bytes.                                           rule: BLOCK
 --     flagsOffset to bootLoaderNameOffset, structureSize, moduleEntrySize    where the fields of the structure stand, and how long the parts are
---     structureWords                                 the 22 words of the structure, from its fields
---     BootModule, Contents                               what a block says
---     PartsStand, blockLength                           where its parts stand and how long it is, by lengths alone
---     structureOf, entries, texts, blockOf           its bytes
---     contentsOf                                     what the block of a load says
+--     structureWords                             the 22 words of the structure, from its fields
+--     BootModule, Contents                       what a block says
+--     mapOffset to stringsOffset, blockLength    where its parts stand and how long it is, by lengths alone
+--     structureOf, entries, texts, blockOf       its bytes
+--     contentsOf                                 what the block of a load says
 -- Assumes nothing.
-use mathlib.Core.Path.{_≡_}
 use mathlib.Core.List.{List, [], _∷_, _++_, map}
 use Prim.Native.Nat.{ℕ, zero, suc, _+_, _*_}
 use lib.ListN.{length}
 use Rattle.laws.specs.Table.{listed}
 use Rattle.number.specs.Number.{wordBytes}
 use Rattle.address.specs.declared.Span.{Span}
-use Rattle.address.specs.Address.{spanNo}
+use Rattle.address.specs.Span.{spanNo}
 use Rattle.submission.specs.declared.Layout.{Layout}
-use Rattle.submission.specs.Format.{moduleNo, bytesOf}
+use Rattle.submission.specs.Layout.{moduleNo, bytesOf}
 use Rattle.block.specs.declared.Structure.{Structure}
-use Rattle.block.specs.declared.size.Offsets.{Offsets}
+use Rattle.block.specs.TextSize.{textSize}
 
 -- where the fields of the structure stand
 abbrev pub flagsOffset : ℕ
@@ -79,10 +78,6 @@ unfoldable pub textBytes : List ℕ → List ℕ
 textBytes [] = []
 textBytes (x ∷ s) = (x ∷ s) ++ (0 ∷ [])
 
-unfoldable pub textSize : ℕ → ℕ
-textSize zero = 0
-textSize (suc n) = suc n + 1
-
 -- the address of a text of n bytes at the address a: 0 if it is empty
 unfoldable pub addressOf : ℕ → ℕ → ℕ
 addressOf a zero = 0
@@ -135,12 +130,6 @@ lineOffset count mapLength = nameOffset count mapLength + length loaderName
 
 abbrev pub stringsOffset : ℕ → ℕ → ℕ → ℕ
 stringsOffset count mapLength lineLength = lineOffset count mapLength + textSize lineLength
-
-pub record PartsStand (count mapLength lineLength : ℕ) (o : Offsets) : Type 0 where
-  pub map : o .map ≡ mapOffset count
-  pub name : o .name ≡ nameOffset count mapLength
-  pub line : o .line ≡ lineOffset count mapLength
-  pub strings : o .strings ≡ stringsOffset count mapLength lineLength
 
 -- the length of a block with module strings of these lengths
 unfoldable pub blockLength : List ℕ → ℕ → ℕ → ℕ

@@ -1,11 +1,11 @@
 -- Laws of reading the information block back.
---     length-block                                             its length, wherever it stands
---     from-map, from-name, from-line, from-strings, from-string  what stands in the block from an offset on
---     map-stands, name-stands, line-stands, string-stands      each part stands where its address says
---     text-taken                                               a text that stands somewhere is read back with its zero
---     texts-room                                               a text and those before it lie among all texts
---     structure-word, fields, word-zero                        the words of the structure: its fields, and zero elsewhere
---     entry-reads                                              the words of a module's entry
+--     length-block                                                 its length, wherever it stands
+--     from-map, from-name, from-line, from-strings, from-string    what stands in the block from an offset on
+--     map-stands, name-stands, line-stands, string-stands          each part stands where its address says
+--     text-taken                                                   a text that stands somewhere is read back with its zero
+--     texts-room                                                   a text and those before it lie among all texts
+--     structure-word, fields, word-zero                            the words of the structure: its fields, and zero elsewhere
+--     entry-reads                                                  the words of a module's entry
 -- Assumes nothing.
 use mathlib.Core.Path.{_≡_, refl, ap, sym, _∙_}
 use mathlib.Core.List.{List, [], _∷_, _++_, append-assoc, map}
@@ -15,12 +15,13 @@ use native.Mathlib.Nat.{add-zero}
 use native.Mathlib.Omega.{arith}
 use lib.ListN.{length, getD, set, take, drop, length-append, length-map, List·getD-append, List·getD-map}
 use lib.Seq.{drop-nil, drop-cons, drop-drop, take-at, drop-at, getD-append-add, drop-append-add, getD-set-other}
-use Rattle.buffer.specs.Patched.{zeros}
 use Rattle.laws.specs.TableLaws.{replicate-at}
+use Rattle.buffer.specs.Patched.{zeros}
 use Rattle.number.specs.Number.{numberAt, wordBytes}
 use Rattle.number.specs.NumberLaws.{length-wordBytes, word-at}
 use Rattle.block.specs.declared.Structure.{Structure}
-use Rattle.block.specs.Block.{structureSize, moduleEntrySize, structureWords, loaderName, textBytes, textSize, flagsOf, addressOf, textsSize, BootModule, ModuleEntry, textOf, stringOf, moduleEntryOf, Contents, mapOffset, nameOffset, lineOffset, stringsOffset, blockLength, structureFor, structureOf, entryWords, entries, stringsAddress, texts, partsOf, blockOf}
+use Rattle.block.specs.Block.{structureSize, moduleEntrySize, structureWords, loaderName, textBytes, flagsOf, addressOf, textsSize, BootModule, ModuleEntry, textOf, stringOf, moduleEntryOf, Contents, mapOffset, nameOffset, lineOffset, stringsOffset, blockLength, structureFor, structureOf, entryWords, entries, stringsAddress, texts, partsOf, blockOf}
+use Rattle.block.specs.TextSize.{textSize}
 use Rattle.block.specs.Reading.{lengthOf, lengthsOf, wordsOf, noBootModule, bootModuleNo, stringOffset, stringAddress, TextStands, fieldOffsets, BlockSmall, FieldsRead, EntryRead}
 use Rattle.block.specs.TextLaws.{text-some, length-textBytes, length-entries, address-some}
 

@@ -1,4 +1,5 @@
--- The definitions that the contracts of `information` cite, and their laws.
+-- The definitions that the contracts of `block` cite, and their laws.
+pub mod TextSize
 pub mod Block
 pub mod TextLaws
 pub mod Reading

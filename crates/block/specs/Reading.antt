@@ -1,8 +1,8 @@
 -- What a reader finds in an information block.
 --     lengthsOf, bootModuleNo, stringAddress    the modules' strings by length, a module, and where its string stands
 --     wordsOf, fieldOffsets                     the words of the structure and the entries, and where the fields stand
---     FieldsRead, EntryRead, TextStands               the fields, an entry and a text, read from bytes
---     BlockSmall                                 every number of a block that is written as a word is below 2^32
+--     FieldsRead, EntryRead, TextStands         the fields, an entry and a text, read from bytes
+--     BlockSmall                                every number of a block that is written as a word is below 2^32
 -- Assumes nothing.
 use mathlib.Core.Path.{_≡_}
 use mathlib.Core.List.{List, [], _∷_, _++_, map}

@@ -1,16 +1,16 @@
 -- Laws of the parts of an information block: texts, entries, and how they grow by one.
---     size-none, size-some, size-low, size-high   the bytes of a text and its zero
---     address-none, address-some, flags-some      what stands for a text in a field
---     text-none, text-some, length-textBytes      a text's bytes
---     textsSize-more, texts-more, entries-more    one text, one entry more
---     length-entries, length-stringLengths        how many there are
---     strings-more, strings-fewer, strings-room   the strings of a layout
---     block-length                                the length of a block with the first n strings
+--     size-none, size-some, size-low, size-high    the bytes of a text and its zero
+--     address-none, address-some, flags-some       what stands for a text in a field
+--     text-none, text-some, length-textBytes       a text's bytes
+--     textsSize-more, texts-more, entries-more     one text, one entry more
+--     length-entries, length-stringLengths         how many there are
+--     strings-more, strings-fewer, strings-room    the strings of a layout
+--     block-length                                 the length of a block with the first n strings
 -- Assumes nothing.
 use mathlib.Core.Path.{_≡_, refl, ap}
 use mathlib.Core.List.{List, [], _∷_, _++_, append-assoc, append-nil, map}
-use Prim.Native.Nat.{ℕ, zero, suc, _+_, _*_, _-_, _≤_, _<_}
 use mathlib.Core.Logic.{⊎-elim}
+use Prim.Native.Nat.{ℕ, zero, suc, _+_, _*_, _-_, _≤_, _<_}
 use native.Mathlib.Nat.{add-zero, eq-or-lt-of-le, le-of-suc-le-suc}
 use native.Mathlib.Numerals.{add-one}
 use native.Mathlib.Omega.{arith}
@@ -18,8 +18,9 @@ use lib.ListN.{length, length-append}
 use Rattle.laws.specs.Table.{listed}
 use Rattle.laws.specs.TableLaws.{length-listed}
 use Rattle.submission.specs.declared.Layout.{Layout}
-use Rattle.submission.specs.Format.{moduleNo}
-use Rattle.block.specs.Block.{ModuleEntry, textOf, entryWords, textBytes, textSize, textsSize, addressOf, lineFlags, flagsOf, entries, texts, stringsOffset, blockLength, stringLengths}
+use Rattle.submission.specs.Layout.{moduleNo}
+use Rattle.block.specs.Block.{ModuleEntry, textOf, entryWords, textBytes, textsSize, addressOf, lineFlags, flagsOf, entries, texts, stringsOffset, blockLength, stringLengths}
+use Rattle.block.specs.TextSize.{textSize}
 
 -- a text and its zero
 pub size-none : (n : ℕ) → n ≡ 0 → 0 ≡ textSize n

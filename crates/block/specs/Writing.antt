@@ -1,17 +1,22 @@
 -- What writing a block rests on, and what is written of it.
---     entriesOf, stringsOf             the entries and the strings of the first n modules
---     partsSize                        the bytes behind the entries
---     SpansLow, StringsIn, Room        what the loader has shown before a block is written
+--     entriesOf, stringsOf         the entries and the strings of the first n modules
+--     partsSize                    the bytes behind the entries
+--     SpansLow, StringsIn, Room    what the loader has shown before a block is written
+--     PartsStand                   offsets are those of the parts
 -- Assumes nothing.
-use mathlib.Core.List.{List}
+use mathlib.Core.Path.{_≡_}
+use mathlib.Core.List.{List, map}
 use Prim.Native.Nat.{ℕ, _+_, _≤_, _<_, _^_}
 use lib.ListN.{length}
 use Rattle.laws.specs.Table.{listed}
 use Rattle.address.specs.declared.Span.{Span}
-use Rattle.address.specs.Address.{spanNo}
+use Rattle.address.specs.Span.{spanNo}
+use Rattle.submission.specs.Format.{maxModules}
 use Rattle.submission.specs.declared.Layout.{Layout}
-use Rattle.submission.specs.Format.{maxModules, moduleNo, bytesOf}
-use Rattle.block.specs.Block.{ModuleEntry, loaderName, textSize, textsSize, blockLength, stringLengths}
+use Rattle.submission.specs.Layout.{moduleNo, bytesOf}
+use Rattle.block.specs.Block.{ModuleEntry, loaderName, textsSize, blockLength, stringLengths, mapOffset, nameOffset, lineOffset, stringsOffset}
+use Rattle.block.specs.declared.size.Offsets.{Offsets}
+use Rattle.block.specs.TextSize.{textSize}
 
 -- the entries of the first n modules
 abbrev pub moduleEntryNo : Layout → List Span → ℕ → ModuleEntry
@@ -43,3 +48,9 @@ pub record StringsIn (s : List ℕ) (l : Layout) : Type 0 where
 pub record Room (l : Layout) (extent text start at size : ℕ) : Type 0 where
   pub low : start + blockLength (stringLengths l (l .count)) extent text ≤ 2 ^ 32
   pub inside : at + blockLength (stringLengths l (l .count)) extent text ≤ size
+
+pub record PartsStand (count mapLength lineLength : ℕ) (o : Offsets) : Type 0 where
+  pub map : o .map ≡ mapOffset count
+  pub name : o .name ≡ nameOffset count mapLength
+  pub line : o .line ≡ lineOffset count mapLength
+  pub strings : o .strings ≡ stringsOffset count mapLength lineLength

@@ -1,14 +1,14 @@
 -- Laws of the block of a load.
 --     entryTexts, length-strings                                 the lengths of its strings
 --     length-loaded, loaded-strings, loaded-entries, block-is    the block by the layout and the spans
---     load-module, length-load, load-small    what it says of a module, its length, and that its words are below 2^32
---     strings-bound, block-bound              how long it is at most
---     room-low, room-inside                   its room, in the sums that its writing makes
+--     load-module, length-load, load-small                       what it says of a module, its length, and that its words are below 2^32
+--     strings-bound, block-bound                                 how long it is at most
+--     room-low, room-inside                                      its room, in the sums that its writing makes
 -- Assumes nothing.
 use mathlib.Core.Path.{_≡_, refl, ap, _∙_}
 use mathlib.Core.List.{List, _++_, map}
-use native.Mathlib.Nat.{suc-mul}
 use Prim.Native.Nat.{ℕ, zero, suc, _+_, _*_, _-_, _^_, _≤_, _<_}
+use native.Mathlib.Nat.{suc-mul}
 use native.Mathlib.Omega.{arith}
 use lib.ListN.{length, length-append}
 use Rattle.laws.specs.Table.{listed}
@@ -16,7 +16,7 @@ use Rattle.laws.specs.TableLaws.{length-listed, listed-at, listed-same, map-lis
 use Rattle.number.specs.Number.{wordBytes}
 use Rattle.address.specs.declared.Span.{Span}
 use Rattle.submission.specs.declared.Layout.{Layout}
-use Rattle.submission.specs.Format.{moduleNo}
+use Rattle.submission.specs.Layout.{moduleNo}
 use Rattle.submission.specs.FormatLaws.{length-bytesOf}
 use Rattle.block.specs.Block.{mapOffset, loaderName, blockLength, stringsOffset, structureFor, structureWords, entries, partsOf, blockOf, contentsOf, textOf, stringOf, moduleEntryOf, textsSize, texts, stringLengths, bootModuleOf, bootModules}
 use Rattle.block.specs.TextLaws.{size-high, length-textBytes, textsSize-more, texts-more, block-length}
@@ -64,7 +64,7 @@ module _ (s : List ℕ) (l : Layout) (spans : List Span) where
 
 -- what the block of a load says of its modules
 module _ (s : List ℕ) (l : Layout) (spans : List Span) where
-  loaded-lengths : (n : ℕ) → ((i : ℕ) → i < n → moduleNo l i .string .at + moduleNo l i .string .len ≤ length s)
+  pub loaded-lengths : (n : ℕ) → ((i : ℕ) → i < n → moduleNo l i .string .at + moduleNo l i .string .len ≤ length s)
       → map lengthOf (bootModules s l spans n) ≡ stringLengths l n
   unfolding bootModules stringLengths
   loaded-lengths n h =

@@ -3,7 +3,9 @@ use submission::Layout;
 ghost use mathlib.Core.Path.{_≡_};
 ghost use Prim.Native.Nat.{_≤_, _<_, _^_};
 ghost use Rattle.submission.specs.Format.{maxModules};
-ghost use Rattle.block.specs.Block.{textSize, stringsOffset, PartsStand, stringLengths, blockLength};
+ghost use Rattle.block.specs.Block.{stringsOffset, stringLengths, blockLength};
+ghost use Rattle.block.specs.Writing.{PartsStand};
+ghost use Rattle.block.specs.TextSize.{textSize};
 
 // The bytes of the structure, of a module's entry, and of the loader's name with its zero.
 pub(crate) const STRUCTURE: usize = 88;

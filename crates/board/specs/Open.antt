@@ -1,5 +1,5 @@
 -- Which addresses are open.                                                              rule: OPEN
---     isOpen     the address is open
+--     isOpen    the address is open
 -- Assumes nothing.
 use mathlib.Core.Bool.{Bool, _&&_}
 use Prim.Native.Nat.{ℕ}

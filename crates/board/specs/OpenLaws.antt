@@ -1,8 +1,8 @@
 -- Open addresses in propositions.
---     Open, open-is    usable and inside the window
---     open-below       an open address is below 2^32
---     open-end         from the window's end on no address is open
---     all-open-is      every address of a span is open
+--     OpenOn, open-is    usable and inside the window
+--     open-below         an open address is below 2^32
+--     open-end           from the window's end on no address is open
+--     all-open-is        every address of a span is open
 -- Assumes nothing.
 use mathlib.Core.Path.{_≡_}
 use mathlib.Core.Bool.{Bool, true, false, and-false}
@@ -15,16 +15,16 @@ use Rattle.laws.specs.TestLaws.{and-left, and-right, all-intro, all-elim}
 use Rattle.address.specs.Address.{inside}
 use Rattle.address.specs.InsideLaws.{inside-is}
 use Rattle.usable.specs.Usable.{addressSpace, isUsable}
-use Rattle.usable.specs.UsableLaws.{Usable, usable-is}
+use Rattle.usable.specs.UsableLaws.{UsableBy, usable-is}
 use Rattle.board.specs.declared.Board.{Board}
 use Rattle.board.specs.Open.{isOpen}
 
-pub record Open (b : Board) (a : ℕ) : Type 0 where
-  pub usable : Usable (b .map) a
+pub record OpenOn (b : Board) (a : ℕ) : Type 0 where
+  pub usable : UsableBy (b .map) a
   pub window : (b .window .start .0 ≤ a) × (a < b .window .end .0)
 
 module _ (b : Board) where
-  pub open-is : (a : ℕ) → (isOpen b a ≡ true) ↔ Open b a
+  pub open-is : (a : ℕ) → (isOpen b a ≡ true) ↔ OpenOn b a
   unfolding isOpen
   open-is a =
       let U : Bool = isUsable (b .map) a in

@@ -10,8 +10,8 @@ use Prim.Native.Nat.{ℕ, _+_, _≤_}
 use borrow.Author.Tests.{ltb-false, le-ltb}
 use lib.Dec.{ltb}
 use Rattle.laws.specs.Checks.{firstOf}
-use Rattle.answer.specs.ChainLaws.{refuses, check-passed}
 use Rattle.address.specs.Address.{top}
+use Rattle.answer.specs.ChainLaws.{refuses, check-passed}
 use Rattle.answer.specs.declared.Answer.the-variants.{Load, WindowPastTop}
 use Rattle.board.specs.Window.{windowChecks}
 

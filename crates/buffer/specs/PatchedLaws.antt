@@ -1,13 +1,13 @@
 -- Laws of a patched buffer, for any buffer, offset and bytes.
---     length-patched                            a write keeps the length
---     patched-nil, patched-past, patched-cut    nothing to write, no room at all, room for a part
---     patched-whole, patched-one                a write over the whole buffer, of one byte
---     patched-split                             a write that fits, as three parts
---     patched-append                            two writes, one behind the other, are one
---     patched-swap                              writes that share no byte may change places
---     take-patched, drop-patched, drop-inside   a part of a patched buffer is that part, patched
---     part-inside                               a part inside the write is the same part of its bytes
---     getD-before, getD-inside, getD-behind     which byte stands where
+--     length-patched                             a write keeps the length
+--     patched-nil, patched-past, patched-cut     nothing to write, no room at all, room for a part
+--     patched-whole, patched-one                 a write over the whole buffer, of one byte
+--     patched-split                              a write that fits, as three parts
+--     patched-append                             two writes, one behind the other, are one
+--     patched-swap                               writes that share no byte may change places
+--     take-patched, drop-patched, drop-inside    a part of a patched buffer is that part, patched
+--     part-inside                                a part inside the write is the same part of its bytes
+--     getD-before, getD-inside, getD-behind      which byte stands where
 -- Assumes nothing.
 use mathlib.Core.Path.{_≡_, refl, ap, sym, _∙_}
 use mathlib.Core.List.{List, [], _∷_, _++_}

@@ -11,9 +11,18 @@ use Prim.Native.Nat.{ℕ, zero, suc, _+_, _-_, _≤_, _<_}
 use native.Mathlib.Omega.{arith}
 use lib.ListN.{length, getD}
 use Rattle.laws.specs.TestLaws.{lt-or-le}
-use Rattle.buffer.specs.Patched.{patched}
 use Rattle.buffer.specs.PatchedLaws.{length-patched, getD-before, getD-inside, getD-behind}
-use Rattle.buffer.specs.Writes.{Write, writeNo, written, Reaches}
+use Rattle.buffer.specs.Writes.{Write, written}
+use Rattle.buffer.specs.Patched.{patched}
+
+abbrev pub noWrite : Write
+noWrite = record { at = 0; bytes = [] }
+
+abbrev pub writeNo : List Write → ℕ → Write
+writeNo ws k = getD ws k noWrite
+
+abbrev pub Reaches : Write → ℕ → Type 0
+Reaches x i = (x .at ≤ i) × (i < x .at + length (x .bytes))
 
 pub length-written : (d : List ℕ) (ws : List Write) → length (written d ws) ≡ length d
 unfolding written

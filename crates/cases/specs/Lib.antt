@@ -1,4 +1,6 @@
--- Worked examples as one statement over one table.
-pub mod WalkLaws
-pub mod ModelLaws
+-- Worked examples as one statement over one table. `Table` is where to start.
 pub mod Table
+pub mod TableLaws
+pub mod WalkLaws
+pub mod RunLaws
+pub mod ModelLaws

@@ -1,6 +1,6 @@
 -- Placing as a function that computes, for examples: it gives what the definitions give.
---     computed, place-computes          one item, by the walk from edge to edge
---     computedFrom, items-compute       items in order
+--     computed, place-computes       one item, by the walk from edge to edge
+--     computedFrom, items-compute    items in order
 -- Assumes nothing.
 use mathlib.Core.Path.{_≡_, refl, sym}
 use mathlib.Core.Bool.{true, false, cond}

@@ -1,8 +1,8 @@
--- What an good-submission operator's line and the command line in force keep.
---     operator-refuses                                     the check on it refuses
---     operator-length, operator-text                       an good-submission operator's line
---     line-refused-submission, line-refused-operator, line-of-operator, line-of-submission, line-cases      which line is in force
---     line-length, line-text, line-zero-free               the line in force, whatever was lent
+-- What an accepted operator's line and the command line in force keep.
+--     operator-refuses                          the check on it refuses
+--     operator-length, operator-text            an good-submission operator's line
+--     line-refused-submission, line-refused-operator, line-of-operator, line-of-submission, line-cases    which line is in force
+--     line-length, line-text, line-zero-free    the line in force, whatever was lent
 -- Assumes nothing.
 use mathlib.Core.Path.{_≡_, refl, _∙_}
 use mathlib.Core.Bool.{true, false, not, _||_, and-false}
@@ -10,20 +10,23 @@ use mathlib.Core.Logic.{⊎-elim}
 use mathlib.Core.List.{List, [], _∷_}
 use Prim.Native.Nat.{ℕ, _≤_, _<_}
 use native.Mathlib.Omega.{arith}
+use borrow.Author.Tests.{ltb-false, not-true}
 use lib.Dec.{ltb}
 use lib.ListN.{length, getD}
-use borrow.Author.Tests.{ltb-false, not-true}
-use Rattle.answer.specs.ChainLaws.{refuses}
 use Rattle.laws.specs.TestLaws.{true-or-false, or-none-left, or-none-right, and-left, lt-or-le}
 use Rattle.laws.specs.Checks.{passes}
 use Rattle.laws.specs.CheckLaws.{passes-append}
+use Rattle.answer.specs.ChainLaws.{refuses}
 use Rattle.submission.specs.Scan.{hasZero}
-use Rattle.submission.specs.ScanLaws.{no-zero}
-use Rattle.submission.specs.Format.{linePart, bytesOf}
+use Rattle.submission.specs.ScanLaws.{no-zero, zero-free}
+use Rattle.submission.specs.Layout.{linePart, bytesOf}
 use Rattle.submission.specs.FormatLaws.{length-bytesOf}
 use Rattle.submission.specs.Rules.{maxLine, submissionChecks}
-use Rattle.submission.specs.RuleLaws.{GoodSubmission, good-submission, line-inside}
-use Rattle.command_line.specs.CommandLine.{operatorChecks, lineInForce, commandLine}
+use Rattle.submission.specs.RuleLaws.{good-submission, line-inside}
+use Rattle.submission.specs.GoodSubmission.{GoodSubmission}
+use Rattle.submission.specs.Format.{lineBytes}
+use Rattle.command_line.specs.CommandLine.{operatorChecks, commandLine}
+use Rattle.command_line.specs.LineInForce.{lineInForce}
 
 module _ (line : List ℕ) where
   pub operator-refuses : refuses (operatorChecks line) ≡ true
@@ -59,7 +62,7 @@ module _ (operator s : List ℕ) where
   unfolding commandLine
   line-refused-operator h = rw (passes-append (submissionChecks s) (operatorChecks operator), h, and-false (passes (submissionChecks s))) refl
 
-  in-force : passes (submissionChecks s) ≡ true → passes (operatorChecks operator) ≡ true → commandLine operator s ≡ lineInForce operator s
+  pub in-force : passes (submissionChecks s) ≡ true → passes (operatorChecks operator) ≡ true → commandLine operator s ≡ lineInForce operator s
   unfolding commandLine
   in-force h k = rw (passes-append (submissionChecks s) (operatorChecks operator), h, k) refl
 
@@ -69,7 +72,7 @@ module _ (operator s : List ℕ) where
   pub line-of-submission : passes (submissionChecks s) ≡ true → passes (operatorChecks operator) ≡ true → length operator ≤ 0 → commandLine operator s ≡ bytesOf s (linePart s)
   line-of-submission h k l = in-force h k ∙ of-submission operator s l
 
-  -- what holds of no line, of an good-submission operator's line and of an good-submission submission's line holds of the line in force
+  -- what holds of no line, of an accepted operator's line and of an accepted submission's line holds of the line in force
   pub line-cases : (P : List ℕ → Type 0) → P [] → (passes (operatorChecks operator) ≡ true → P operator) → (GoodSubmission s → P (bytesOf s (linePart s))) → P (commandLine operator s)
   line-cases P n o t =
       ⊎-elim
@@ -92,7 +95,7 @@ module _ (operator s : List ℕ) where
 
   pub line-text : hasZero (commandLine operator s) ≡ false
   unfolding hasZero
-  line-text = line-cases (λ (l : List ℕ). hasZero l ≡ false) refl (operator-text operator) (λ (a : GoodSubmission s). a .line-text)
+  line-text = line-cases (λ (l : List ℕ). hasZero l ≡ false) refl (operator-text operator) (λ (a : GoodSubmission s). zero-free (lineBytes s) (a .line-text))
 
   pub line-zero-free : (i : ℕ) → i < length (commandLine operator s) → getD (commandLine operator s) i 0 ≡ 0 → ⊥
   line-zero-free = no-zero (commandLine operator s) line-text

@@ -1,33 +1,32 @@
 -- The stages of a decision, and what they leave.          rules: ANSWERS (15 to 17), PLAN, HANDOVER
---     kernelOpen, kernelChecks    15: every address of the kernel's extents is open
---     roomChecks                  16 and 17: each module and the information block found room
---     bootMagic, planOf, noPlan   the plan of a load, and that of a refusal
---     decidedBy                   the answer of a chain of checks, with the plan where it is a load
---     placedBy, memoryDecision    where the items go, and the decision on memory alone
+--     kernelOpen, kernelChecks     15: every address of the kernel's extents is open
+--     roomChecks                   16 and 17: each module and the information block found room
+--     bootMagic, planOf, noPlan    the plan of a load, and that of a refusal
+--     decidedBy                    the answer of a chain of checks, with the plan where it is a load
+--     placedBy, memoryDecision     where the items go, and the decision on memory alone
 -- Assumes nothing.
 use mathlib.Core.Bool.{Bool, not, cond}
 use mathlib.Core.List.{List, [], _∷_, _++_}
 use Prim.Native.Nat.{ℕ, _+_, _-_}
 use lib.Dec.{ltb}
-use lib.ListN.{replicate}
 use Rattle.laws.specs.Tests.{allFrom}
 use Rattle.laws.specs.Checks.{Check, firstOf, _gives_}
+use Rattle.address.specs.Span.{spanNo}
 use Rattle.answer.specs.Answer.{isLoad}
 use Rattle.answer.specs.declared.Answer.{Answer}
 use Rattle.answer.specs.declared.Answer.the-variants.{Load, KernelNotOpen, NoRoomForModule, NoRoomForBlock}
 use Rattle.submission.specs.declared.Layout.{Layout}
-use Rattle.submission.specs.Format.{maxModules}
 use Rattle.image.specs.declared.Kernel.{Kernel}
-use Rattle.image.specs.Judged.{noKernel}
+use Rattle.image.specs.Kernel.{extentNo}
 use Rattle.board.specs.declared.Board.{Board}
 use Rattle.board.specs.Open.{isOpen}
 use Rattle.placement.specs.declared.Spans.{Spans}
 use Rattle.placement.specs.declared.Placed.{Placed}
 use Rattle.placement.specs.Order.{placeItems}
-use Rattle.address.specs.Address.{noSpan, spanNo}
+use Rattle.items.specs.LoadItems.{extentsOf, itemsOf, moduleSpans}
 use Rattle.decision.specs.declared.Plan.{Plan}
 use Rattle.decision.specs.declared.Decision.{Decision}
-use Rattle.items.specs.LoadItems.{extentNo, extentsOf, itemsOf, moduleSpans}
+use Rattle.decision.specs.Plan.{noPlan}
 
 -- the kernel's extents lie wholly in open memory
 unfoldable pub extentOpen : Board → Kernel → ℕ → Bool
@@ -58,9 +57,6 @@ planOf k t n =
       eax = bootMagic;
       ebx = spanNo (t .list) (k .count + n) .start .0;
     }
-
-unfoldable pub noPlan : Plan
-noPlan = record { kernel = noKernel; modules = replicate maxModules noSpan; block = noSpan; eax = 0; ebx = 0 }
 
 -- a refusal comes with zeros
 unfoldable pub decidedBy : List (Check Answer) → Plan → Decision

@@ -11,7 +11,8 @@ use Rattle.answer.specs.ChainLaws.{refuses, chain-append, or-else-first, or-els
 use Rattle.answer.specs.declared.Answer.{Answer}
 use Rattle.answer.specs.declared.Answer.the-variants.{Load}
 use Rattle.decision.specs.declared.Plan.{Plan}
-use Rattle.decision.specs.Decided.{noPlan, decidedBy}
+use Rattle.decision.specs.Decided.{decidedBy}
+use Rattle.decision.specs.Plan.{noPlan}
 
 module _ (ks ls : List (Check Answer)) (p : Plan) (r : refuses ks ≡ true) where
   -- where a stage refuses, its answer is the decision's, and the plan is zeros

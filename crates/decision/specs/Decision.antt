@@ -1,10 +1,10 @@
 -- The decision on what is lent: the order of checks, 1 to 17, and the plan.    rules: ANSWERS, PLAN
---     lentChecks   the checks on what is lent
---     checks       all checks in their order
---     answerOf     the answer
---     placedIn     where the modules and the information block go
---     planIn       the plan of a load
---     decisionOf   the answer with its plan, all zeros in a refusal
+--     lentChecks    the checks on what is lent
+--     checks        all checks in their order
+--     answerOf      the answer
+--     placedIn      where the modules and the information block go
+--     planIn        the plan of a load
+--     decisionOf    the answer with its plan, all zeros in a refusal
 -- Assumes nothing.
 use mathlib.Core.List.{List, _++_}
 use Rattle.laws.specs.Checks.{Check, firstOf}
@@ -12,13 +12,14 @@ use Rattle.answer.specs.declared.Answer.{Answer}
 use Rattle.answer.specs.declared.Answer.the-variants.{Load}
 use Rattle.submission.specs.Rules.{submissionChecks}
 use Rattle.command_line.specs.CommandLine.{operatorChecks}
-use Rattle.board.specs.Window.{windowChecks}
-use Rattle.memory_map.specs.Pairs.{mapChecks}
 use Rattle.image.specs.Judged.{imageChecks}
+use Rattle.memory_map.specs.Map.{mapChecks}
+use Rattle.board.specs.Window.{windowChecks}
 use Rattle.placement.specs.declared.Placed.{Placed}
 use Rattle.decision.specs.declared.Plan.{Plan}
 use Rattle.decision.specs.declared.Decision.{Decision}
-use Rattle.decision.specs.Lent.{Lent, layoutIn, imageIn, kernelIn, boardIn, blockLengthIn}
+use Rattle.decision.specs.Lent.{Lent}
+use Rattle.decision.specs.Read.{layoutIn, imageIn, kernelIn, boardIn, blockLengthIn}
 use Rattle.decision.specs.Decided.{placedBy, memoryChecks, memoryPlan, decidedBy}
 
 abbrev pub placedIn : Lent → Placed

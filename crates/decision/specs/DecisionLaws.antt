@@ -1,11 +1,11 @@
 -- What the checks before 15 show, and how the decision goes on from them.
---     lent-refuses                checks 1 to 14 refuse
---     answer-is                   the first refusal of the stages is the answer of checks 1 to 14
---     LentPassed, lent-passed              what is known where none of them applies
---     prepared, block-small       so that the items can be placed
---     verdict-is, layout-known, map-known, kernel-known    what the stages read
---     decided-refused, decided-on                          a refusal of checks 1 to 14, and the decision on memory
---     board-is, block-length-is, prepared-is, decision-is         the same as the calls hand it over
+--     lent-refuses                                           checks 1 to 14 refuse
+--     answer-is                                              the first refusal of the stages is the answer of checks 1 to 14
+--     LentPassed, lent-passed                                what is known where none of them applies
+--     prepared, block-small                                  so that the items can be placed
+--     verdict-is, Stages, stages-known                       what the stages read
+--     decided-refused, decided-on                            a refusal of checks 1 to 14, and the decision on memory
+--     board-is, block-length-is, prepared-is, decision-is    the same as the calls hand it over
 -- Assumes nothing.
 use mathlib.Core.Path.{_≡_, refl, sym, ap, _∙_}
 use mathlib.Core.Bool.{true, false}
@@ -15,6 +15,7 @@ use native.Mathlib.Omega.{arith}
 use lib.ListN.{length}
 use Rattle.laws.specs.Checks.{firstOf, passes}
 use Rattle.address.specs.Address.{top}
+use Rattle.address.specs.declared.Span.{Span}
 use Rattle.answer.specs.Answer.{isLoad, orElse}
 use Rattle.answer.specs.ChainLaws.{refuses, chain-append, or-else-same, or-else-load, passes-is, load-is}
 use Rattle.answer.specs.declared.Answer.{Answer}
@@ -22,30 +23,34 @@ use Rattle.answer.specs.declared.Answer.the-variants.{Load}
 use Rattle.submission.specs.declared.Layout.{Layout}
 use Rattle.submission.specs.declared.Module.{Module}
 use Rattle.submission.specs.declared.ParsedSubmission.{ParsedSubmission}
-use Rattle.submission.specs.Format.{moduleCount, maxModules, bytesOf, moduleNo}
+use Rattle.submission.specs.Format.{moduleCount, maxModules}
+use Rattle.submission.specs.Layout.{bytesOf, moduleNo}
 use Rattle.submission.specs.FormatLaws.{layout-count, module-at}
-use Rattle.submission.specs.Rules.{submissionChecks, maxLine, maxString, parsedSubmission}
-use Rattle.submission.specs.RuleLaws.{GoodSubmission, good-submission, submission-refuses, parsed-layout}
+use Rattle.submission.specs.Rules.{submissionChecks, maxLine, maxString}
+use Rattle.submission.specs.Parse.{parsedSubmission}
+use Rattle.submission.specs.RuleLaws.{good-submission, submission-refuses, parsed-layout}
+use Rattle.submission.specs.GoodSubmission.{GoodSubmission}
 use Rattle.command_line.specs.CommandLine.{operatorChecks}
 use Rattle.command_line.specs.CommandLineLaws.{operator-refuses, line-length}
-use Rattle.address.specs.declared.Span.{Span}
-use Rattle.memory_map.specs.declared.MemMap.{MemMap}
 use Rattle.image.specs.declared.Kernel.{Kernel}
+use Rattle.image.specs.declared.Judged.{Judged}
+use Rattle.image.specs.Judged.{headerChecks, loadChecks, imageChecks}
+use Rattle.image.specs.Judge.{judged}
+use Rattle.image.specs.JudgedLaws.{image-refuses, judged-answer, judged-load, good-kernel}
+use Rattle.memory_map.specs.declared.MemMap.{MemMap}
+use Rattle.memory_map.specs.declared.ParsedMap.{ParsedMap}
+use Rattle.memory_map.specs.Map.{mapChecks, badMap, firstPairs, mapOf}
+use Rattle.memory_map.specs.Parse.{parsedMap}
+use Rattle.memory_map.specs.PairsLaws.{map-refuses, good-counted, load-good, parsed-good}
 use Rattle.board.specs.declared.Board.{Board}
 use Rattle.board.specs.Window.{windowChecks, windowSpan}
 use Rattle.board.specs.WindowLaws.{window-refuses, window-fits}
-use Rattle.memory_map.specs.declared.ParsedMap.{ParsedMap}
-use Rattle.memory_map.specs.Pairs.{mapChecks, badMap, firstPairs, mapOf}
-use Rattle.memory_map.specs.Pairs.{parsedMap}
-use Rattle.memory_map.specs.PairsLaws.{map-refuses, good-map, load-good, parsed-good}
-use Rattle.image.specs.declared.Judged.{Judged}
-use Rattle.image.specs.Judged.{headerChecks, loadChecks, imageChecks, judged}
-use Rattle.image.specs.JudgedLaws.{image-refuses, judged-answer, judged-load}
-use Rattle.image.specs.JudgedLaws.{good-kernel}
 use Rattle.block.specs.Block.{stringLengths, blockLength}
 use Rattle.block.specs.WritingLaws.{block-bound}
-use Rattle.decision.specs.Lent.{Lent, layoutIn, imageIn, kernelIn, lineIn, boardIn, blockLengthIn}
-use Rattle.decision.specs.Decided.{noPlan, memoryChecks, memoryDecision}
+use Rattle.decision.specs.Lent.{Lent}
+use Rattle.decision.specs.Read.{layoutIn, imageIn, kernelIn, lineIn, boardIn, blockLengthIn}
+use Rattle.decision.specs.Decided.{memoryChecks, memoryDecision}
+use Rattle.decision.specs.Plan.{noPlan}
 use Rattle.decision.specs.DecidedLaws.{stage-refuses, stage-passes}
 use Rattle.decision.specs.Decision.{lentChecks, checks, decisionOf}
 use Rattle.decision.specs.PlacedLaws.{Prepared}
@@ -76,7 +81,7 @@ module _ (x : Lent) where
         chain-append (mapChecks (x .map)) (imageChecks (imageIn x)) (map-refuses (x .map)),
       )
 
-  -- where the submission is good-submission, its layout is the one read
+  -- where the submission is accepted, its layout is the one read
   layout-read : isLoad (firstOf (submissionChecks (x .submission)) Load) ≡ true → parsedSubmission (x .submission) .layout ≡ layoutIn x
   layout-read h = parsed-layout (x .submission) (sym (passes-is (submissionChecks (x .submission)) (submission-refuses (x .submission))) ∙ h)
 
@@ -96,6 +101,7 @@ module _ (x : Lent) where
 pub record LentPassed (x : Lent) : Type 0 where
   pub rules : passes (submissionChecks (x .submission)) ≡ true
   pub submission : GoodSubmission (x .submission)
+  pub operator : passes (operatorChecks (x .operator)) ≡ true
   pub window : x .first + x .size ≤ top
   pub map : badMap (x .map) ≡ false
   pub image : firstOf (imageChecks (imageIn x)) Load ≡ Load
@@ -111,6 +117,7 @@ module _ (x : Lent) where
       record {
         rules = r;
         submission = good-submission (x .submission) r;
+        operator = sym (passes-is (operatorChecks (x .operator)) (operator-refuses (x .operator))) ∙ b .0;
         window = window-fits (x .first) (x .size) .0 (load-is _ (window-refuses (x .first) (x .size)) (c .0));
         map = load-good (x .map) (load-is _ (map-refuses (x .map)) (d .0));
         image = load-is _ (image-refuses (imageIn x)) (d .1);
@@ -132,7 +139,7 @@ module _ (x : Lent) (p : LentPassed x) where
       let b = block-bound (layoutIn x) maxString (length (x .map)) (length (lineIn x)) string-small in
       let l : length (lineIn x) ≤ maxLine = line-length (x .operator) (x .submission) in
       let c = count-small in
-      omega (arith, b, good-map (x .map) (p .map) .short)
+      omega (arith, b, good-counted (x .map) (p .map) .short)
 
   pub prepared : Prepared (boardIn x) (kernelIn x) (layoutIn x) (blockLengthIn x)
   unfolding firstPairs
@@ -147,6 +154,12 @@ module _ (x : Lent) (p : LentPassed x) where
         block = block-small .0;
       }
 
+-- what the stages hand over where none of them refuses
+pub record Stages (x : Lent) (r : ParsedSubmission) (m : ParsedMap) (j : Judged) : Type 0 where
+  pub layout : r .layout ≡ layoutIn x
+  pub map : m .map ≡ mapOf (x .map)
+  pub kernel : j .kernel ≡ kernelIn x
+
 -- what the stages read, as their calls hand it over
 module _ (x : Lent) (r : ParsedSubmission) (m : ParsedMap) (i : List ℕ) (j : Judged)
     (re : r ≡ parsedSubmission (x .submission)) (me : m ≡ parsedMap (x .map)) (ie : i ≡ bytesOf (x .submission) (r .layout .image)) (je : j ≡ judged i) where
@@ -155,15 +168,15 @@ module _ (x : Lent) (r : ParsedSubmission) (m : ParsedMap) (i : List ℕ) (j : J
       → v ≡ firstOf (lentChecks x) Load
   verdict-is o w v oe we e = answer-is x v (rw (oe, we, je, ie, me, re) at e)
 
-  module _ (h : isLoad (firstOf (lentChecks x) Load) ≡ true) where
-    pub layout-known : r .layout ≡ layoutIn x
-    layout-known = rw re (layout-read x (or-else-load _ _ (ap isLoad (sym (lent-chain x)) ∙ h) .0))
-
-    pub map-known : m .map ≡ mapOf (x .map)
-    map-known = rw (me, ← parsed-good (x .map) (lent-passed x h .map)) refl
-
-    pub kernel-known : j .kernel ≡ kernelIn x
-    kernel-known = rw (je, ie, layout-known) (judged-load (imageIn x) (lent-passed x h .image))
+  -- they are what the rules read
+  pub stages-known : isLoad (firstOf (lentChecks x) Load) ≡ true → Stages x r m j
+  stages-known h =
+      let l : r .layout ≡ layoutIn x = rw re (layout-read x (or-else-load _ _ (ap isLoad (sym (lent-chain x)) ∙ h) .0)) in
+      record {
+        layout = l;
+        map = rw (me, ← parsed-good (x .map) (lent-passed x h .map)) refl;
+        kernel = rw (je, ie, l) (judged-load (imageIn x) (lent-passed x h .image));
+      }
 
 module _ (x : Lent) where
   pub decided-refused : (v : Answer) → v ≡ firstOf (lentChecks x) Load → isLoad v ≡ false → record { answer = v; plan = noPlan } ≡ decisionOf x

@@ -1,18 +1,21 @@
 -- What placing the items of a load leaves.
---     Prepared           what the checks before 15 have shown
---     items-ready        the items may be placed
---     item-some          no item is empty
---     load-in-order           the placing promise for the items of a load, beside the kernel's extents
---     span-below         a placed item begins below 2^32
+--     Prepared         what the checks before 15 have shown
+--     items-ready      the items may be placed
+--     item-some        no item is empty
+--     load-in-order    the placing promise for the items of a load, beside the kernel's extents
+--     span-below       a placed item begins below 2^32
 -- Assumes nothing.
 use Prim.Native.Nat.{ℕ, _+_, _≤_, _<_, _^_}
 use native.Mathlib.Omega.{arith}
 use lib.ListN.{length}
 use Rattle.laws.specs.TableLaws.{length-table}
-use Rattle.address.specs.Address.{noSpan, spanNo, top}
+use Rattle.address.specs.Address.{top}
+use Rattle.address.specs.Span.{noSpan, spanNo}
 use Rattle.submission.specs.declared.Layout.{Layout}
-use Rattle.submission.specs.Format.{maxModules, moduleNo}
+use Rattle.submission.specs.Layout.{moduleNo}
+use Rattle.submission.specs.Format.{maxModules}
 use Rattle.image.specs.declared.Kernel.{Kernel}
+use Rattle.image.specs.Kernel.{maxSegments, extentNo}
 use Rattle.board.specs.declared.Board.{Board}
 use Rattle.board.specs.Open.{isOpen}
 use Rattle.board.specs.OpenLaws.{open-below}
@@ -20,10 +23,9 @@ use Rattle.placement.specs.declared.Item.{Item}
 use Rattle.placement.specs.Free.{maxSpans}
 use Rattle.placement.specs.Order.{itemNo}
 use Rattle.placement.specs.Ready.{Ready}
-use Rattle.placement.specs.Placing.{InOrder}
+use Rattle.placement.specs.InOrder.{InOrder}
 use Rattle.placement.specs.PlacingLaws.{board-in-order}
-use Rattle.image.specs.Judged.{maxSegments}
-use Rattle.items.specs.LoadItems.{extentNo, extentsOf, itemsOf}
+use Rattle.items.specs.LoadItems.{extentsOf, itemsOf}
 use Rattle.items.specs.LoadItemsLaws.{each-item}
 use Rattle.decision.specs.Decided.{placedBy}
 

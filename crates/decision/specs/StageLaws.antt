@@ -1,6 +1,6 @@
 -- The last two stages of a decision: 15, then 16 and 17.
---     kernel-refuses, kernel-passed, all-placed                   when no check of a stage applies
---     decided-closed, decided-no-room, decided-load               the decision on memory in each case
+--     kernel-refuses, kernel-passed, all-placed        when no check of a stage applies
+--     decided-closed, decided-no-room, decided-load    the decision on memory in each case
 -- Assumes nothing.
 use mathlib.Core.Path.{_≡_, refl, sym, ap}
 use mathlib.Core.Bool.{true, false, not}
@@ -22,7 +22,8 @@ use Rattle.placement.specs.declared.Spans.{Spans}
 use Rattle.placement.specs.declared.Placed.{Placed}
 use Rattle.placement.specs.Order.{placeItems}
 use Rattle.items.specs.LoadItems.{extentsOf, itemsOf}
-use Rattle.decision.specs.Decided.{kernelOpen, kernelChecks, roomChecks, noPlan, decidedBy, placedBy, memoryPlan, memoryDecision}
+use Rattle.decision.specs.Decided.{kernelOpen, kernelChecks, roomChecks, decidedBy, placedBy, memoryPlan, memoryDecision}
+use Rattle.decision.specs.Plan.{noPlan}
 use Rattle.decision.specs.DecidedLaws.{stage-refuses, stage-passes}
 
 module _ (b : Board) (k : Kernel) where

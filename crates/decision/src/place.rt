@@ -12,11 +12,12 @@ ghost use mathlib.Core.Path.{_≡_};
 ghost use Prim.Native.Nat.{_+_, _≤_, _<_, _^_};
 ghost use Rattle.laws.specs.Checks.{firstOf};
 ghost use Rattle.submission.specs.Format.{maxModules};
-ghost use Rattle.address.specs.Address.{spanNo};
+ghost use Rattle.address.specs.Span.{spanNo};
 ghost use Rattle.placement.specs.Free.{maxSpans};
-ghost use Rattle.image.specs.Judged.{maxSegments};
+ghost use Rattle.image.specs.Kernel.{maxSegments};
 ghost use Rattle.decision.specs.PlacedLaws.{Prepared};
-ghost use Rattle.decision.specs.Decided.{kernelOpen, roomChecks, planOf, noPlan, memoryDecision};
+ghost use Rattle.decision.specs.Decided.{kernelOpen, roomChecks, planOf, memoryDecision};
+ghost use Rattle.decision.specs.Plan.{noPlan};
 
 // The number handed over in EAX.
 const BOOT_MAGIC: u32 = 0x2BADB002;

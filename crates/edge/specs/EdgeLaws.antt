@@ -1,8 +1,8 @@
 -- Up to the nearest edge past x a test of addresses answers as at x.
---     Edge, Edges                the edge of a test, and of the tests 0 to k - 1
---     nearest-is, span-edge-is   the nearest edge of a span is an edge of lying in it
---     edges-are                  the same for each of several spans
---     edge-none, edge-more       no span, and one span more, as a loop counts
+--     Edge, Edges                 the edge of a test, and of the tests 0 to k - 1
+--     nearest-is, span-edge-is    the nearest edge of a span is an edge of lying in it
+--     edges-are                   the same for each of several spans
+--     edge-none, edge-more        no span, and one span more, as a loop counts
 -- Assumes nothing.
 use mathlib.Core.Path.{_≡_, refl, sym, ap, _∙_}
 use mathlib.Core.Bool.{Bool, not, and-false}

@@ -1,5 +1,5 @@
 -- What a walk from edge to edge has passed, as long as the test holds.
---     AllPass                     each address from a up to x passes the test
+--     AllPass                each address from a up to x passes the test
 --     pass-start, pass-on    a walk begins, and goes on to the next edge
 -- Assumes nothing.
 use mathlib.Core.Path.{_≡_, _∙_}

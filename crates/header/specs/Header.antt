@@ -1,7 +1,7 @@
 -- The Multiboot header of an image.                                                    rule: HEADER
 --     magic, searchLimit, shortHeader    the numbers of the rule
---     words                            the numbers that bytes make, four by four
---     isHeader, headerFrom, header     the search, word by word from the front
+--     words                              the numbers that bytes make, four by four
+--     isHeader, headerFrom, header       the search, word by word from the front
 -- Its answer in propositions is in HeaderLaws.
 -- Assumes nothing.
 use mathlib.Core.Bool.{Bool, cond, _&&_}
@@ -44,6 +44,6 @@ headerFrom at (m ∷ []) = Nothing
 headerFrom at (m ∷ f ∷ []) = Nothing
 headerFrom at (m ∷ f ∷ c ∷ ws) = let r = headerFrom (at + 4) (f ∷ c ∷ ws) in cond (isHeader m f c) (At (record { 0 = at })) r
 
--- the header of an image: the lowest in its searchLimit part
+-- the header of an image: the lowest in its searched part
 unfoldable pub header : List ℕ → Search
 header image = headerFrom 0 (words (take searchLimit image))

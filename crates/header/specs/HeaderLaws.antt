@@ -1,7 +1,7 @@
 -- What the header search answers, in propositions.
---     HeaderAt                          a header stands at an offset of the image
---     header-lowest, lowest-header      the search finds o exactly where o is the lowest offset of a header
---     header-none, none-header          it finds nothing exactly where there is no header
+--     HeaderAt                        a header stands at an offset of the image
+--     header-lowest, lowest-header    the search finds o exactly where o is the lowest offset of a header
+--     header-none, none-header        it finds nothing exactly where there is no header
 -- Assumes nothing.
 use mathlib.Core.Path.{_≡_, refl, sym, ap, _∙_, subst}
 use mathlib.Core.Bool.{Bool, true, false, false≢true}
@@ -23,15 +23,7 @@ use Rattle.header.specs.declared.Search.{Search}
 use Rattle.header.specs.declared.Search.the-variants.{At, Nothing}
 use Rattle.header.specs.Header.{magic, searchLimit, shortHeader, words, isHeader, headerFrom, header}
 use Rattle.header.specs.WalkLaws.{found-at, passed-at, none-left}
-
--- a header stands at the offset o: a multiple of 4, with 12 bytes inside both the image and its searchLimit part, the magic,
--- and a sum of magic, flags and checksum that is 0 modulo 2^32
-pub record HeaderAt (image : List ℕ) (o : ℕ) : Type 0 where
-  pub multiple : o % 4 ≡ 0
-  pub whole : o + shortHeader ≤ length image
-  pub early : o + shortHeader ≤ searchLimit
-  pub marked : numberAt 4 image o ≡ magic
-  pub sum : (numberAt 4 image o + numberAt 4 image (o + 4) + numberAt 4 image (o + 8)) % 2 ^ 32 ≡ 0
+use Rattle.header.specs.HeaderAt.{HeaderAt}
 
 is-header : (m f k : ℕ) → isHeader m f k ≡ true → (m ≡ magic) × ((m + f + k) % 2 ^ 32 ≡ 0)
 unfolding isHeader
@@ -109,7 +101,7 @@ module _ (s : List ℕ) where
       let q : 0 + 4 * (p / 4) ≡ p = omega (arith, a .multiple) in
       rw (q, test-searched p (a .early)) (to-test p a)
 
-  -- what the search over the searchLimit part says of the image
+  -- what the search over the searched part says of the image
   told : (r : Search) → Says (take searchLimit s) 0 r → Answers r
   told Nothing h = λ p a. false≢true (sym (h (p / 4) (simp length-take (omega (arith, a .multiple, a .whole, a .early)))) ∙ placed p a)
   told (At o) h =

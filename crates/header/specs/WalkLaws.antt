@@ -1,17 +1,17 @@
 -- Laws of the header search, step by step.
---     found-at, passed-at, none-left      a header at a place, none there, and too few bytes left
---     whole-image, first-part             the part that is searchLimit
---     other-magic, by-sum                 the test of three words
+--     found-at, passed-at, none-left    a header at a place, none there, and too few bytes left
+--     whole-image, first-part           the part that is searchLimit
+--     other-magic, by-sum               the test of three words
 -- Assumes nothing.
 use mathlib.Core.Path.{_≡_, refl, ap, sym}
 use mathlib.Core.Bool.{true, false}
 use mathlib.Core.List.{List, [], _∷_}
 use Prim.Native.Nat.{ℕ, _+_, _*_, _%_, _^_, _≤_, _<_}
 use native.Mathlib.Omega.{arith}
+use borrow.Author.Tests.{eq-eqb, ne-eqb}
 use lib.Dec.{eqb}
 use lib.ListN.{length, take, drop, length-drop}
 use lib.Seq.{drop-drop, take-all}
-use borrow.Author.Tests.{eq-eqb, ne-eqb}
 use Rattle.number.specs.Number.{number, numberAt}
 use Rattle.header.specs.declared.Search.the-variants.{At, Nothing}
 use Rattle.header.specs.Header.{magic, searchLimit, shortHeader, words, isHeader, headerFrom, header}
@@ -77,7 +77,7 @@ too-few at (m ∷ f ∷ k ∷ ws) h = absurd (omega arith)
 pub none-left : (at : ℕ) (s : List ℕ) → length s < shortHeader → headerFrom at (words s) ≡ Nothing
 none-left at s h = too-few at (words s) (omega (arith, length-words s))
 
--- an image that is no longer than the searchLimit part is searchLimit whole
+-- an image that is no longer than the searched part is searched whole
 pub whole-image : (s : List ℕ) → length s ≤ searchLimit → headerFrom 0 (words s) ≡ header s
 unfolding header
 whole-image s h = ap (λ (l : List ℕ). headerFrom 0 (words l)) (sym (take-all searchLimit s h))

@@ -1,7 +1,7 @@
 -- Which check refuses an image whose header was found, in the words of the code's tests.
 --     no-header, unknown-request, no-addresses, cut-off, before-image    checks 6 to 10
---     load-left, offset-below                                            the checks on the load are left
---     length-fits                                                        how long a load is at most
+--     load-left, offset-below    the checks on the load are left
+--     length-fits                how long a load is at most
 -- Assumes nothing.
 use mathlib.Core.Path.{_≡_, refl, sym}
 use mathlib.Core.Bool.{Bool, true, false, cond}
@@ -12,17 +12,18 @@ use lib.Dec.{eqb}
 use lib.ListN.{length}
 use Rattle.laws.specs.Checks.{firstOf}
 use Rattle.laws.specs.CheckLaws.{chain}
+use Rattle.address.specs.declared.ImageOffset.{ImageOffset}
 use Rattle.answer.specs.Answer.{isLoad}
 use Rattle.answer.specs.declared.Answer.{Answer}
 use Rattle.answer.specs.declared.Answer.the-variants.{Load, NoHeader, UnknownRequest, NoAddressFields, HeaderCutOff, LoadBeforeImage}
-use Rattle.address.specs.declared.ImageOffset.{ImageOffset}
 use Rattle.header.specs.declared.Search.{Search}
 use Rattle.header.specs.declared.Search.the-variants.{At, Nothing}
-use Rattle.image.specs.declared.load.AddressFields.{AddressFields}
 use Rattle.header.specs.Header.{header}
+use Rattle.image.specs.declared.load.AddressFields.{AddressFields}
 use Rattle.image.specs.Load.{flagsAt, fieldsAt, onPages, loadOffset, loadLength}
 use Rattle.image.specs.Narrow.{Narrow}
-use Rattle.image.specs.Judged.{unknownRequest, noAddresses, cutOff, beforeImage, headerChecks, loadChecks, imageChecks, kernelFor, kernelOf, refused, withKernel, judged}
+use Rattle.image.specs.Judged.{unknownRequest, noAddresses, cutOff, beforeImage, headerChecks, loadChecks, imageChecks, kernelFor, kernelOf}
+use Rattle.image.specs.Judge.{refused, withKernel, judged}
 
 -- what a choice between nothing and an offset was made by
 chosen-none : (t : Bool) (x : Search) (y : ImageOffset) → x ≡ cond t Nothing (At y) → x ≡ Nothing → t ≡ true

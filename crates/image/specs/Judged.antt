@@ -1,33 +1,29 @@
 -- The answer for an image, and its kernel.                           rules: ANSWERS (6 to 14), LOAD
---     noHeader, offsetOf                     what the header search found: 6
+--     noHeader, offsetOf    what the header search found: 6
 --     unknownRequest, noAddresses, cutOff, beforeImage, nothingLeft, pastImage, bssBelow, entryOutside
 --                                            the conditions of 7 to 14
 --     headerOffset, headerFlags, headerFields, firstLoaded, countLoaded
 --                                            what an image's header says
---     headerChecks, loadChecks               the checks on the header, 6 to 10, and on the load, 11 to 14
---     imageChecks                            both, in order
---     maxSegments, noSegment, noKernel      the most segments, and zeros
---     segmentNo                              the segment of an index
---     segmentFor, kernelFor, kernelOf          the kernel that an image asks for
---     refused, withKernel, judged            the answer, and the kernel beside it
+--     headerChecks, loadChecks           the checks on the header, 6 to 10, and on the load, 11 to 14
+--     imageChecks                        both, in order
+--     segmentFor, kernelFor, kernelOf    the kernel that an image asks for
 -- Assumes nothing.
-use mathlib.Core.Bool.{Bool, true, false, cond, not, _&&_, _||_}
+use mathlib.Core.Bool.{Bool, true, false, not, _&&_, _||_}
 use mathlib.Core.List.{List, [], _∷_, _++_}
 use Prim.Native.Nat.{ℕ, _+_, _-_, _/_, _%_, _^_}
 use lib.Dec.{eqb, leb, ltb}
-use lib.ListN.{length, getD, replicate}
-use Rattle.laws.specs.Checks.{Check, firstOf, _gives_}
-use Rattle.answer.specs.Answer.{isLoad}
+use lib.ListN.{length, replicate}
+use Rattle.laws.specs.Checks.{Check, _gives_}
 use Rattle.answer.specs.declared.Answer.{Answer}
-use Rattle.answer.specs.declared.Answer.the-variants.{Load, NoHeader, UnknownRequest, NoAddressFields, HeaderCutOff, LoadBeforeImage, NothingToLoad, LoadPastImage, BssBelowLoadEnd, EntryOutsideLoad}
+use Rattle.answer.specs.declared.Answer.the-variants.{NoHeader, UnknownRequest, NoAddressFields, HeaderCutOff, LoadBeforeImage, NothingToLoad, LoadPastImage, BssBelowLoadEnd, EntryOutsideLoad}
 use Rattle.header.specs.declared.Search.{Search}
 use Rattle.header.specs.declared.Search.the-variants.{At, Nothing}
+use Rattle.header.specs.Header.{searchLimit, header}
 use Rattle.image.specs.declared.load.AddressFields.{AddressFields}
 use Rattle.image.specs.declared.Segment.{Segment}
 use Rattle.image.specs.declared.Kernel.{Kernel}
-use Rattle.image.specs.declared.Judged.{Judged}
-use Rattle.header.specs.Header.{searchLimit, header}
 use Rattle.image.specs.Load.{flagsAt, fieldsAt, onPages, fullHeader, loadOffset, loadLength, loadEnd, extentEnd}
+use Rattle.image.specs.Kernel.{maxSegments, noSegment}
 
 -- 6: no header
 abbrev pub noHeader : Search → Bool
@@ -110,19 +106,6 @@ loadChecks h offset len n =
 unfoldable pub imageChecks : List ℕ → List (Check Answer)
 imageChecks image = headerChecks image ++ loadChecks (headerFields image) (firstLoaded image) (countLoaded image) (length image)
 
--- at most so many segments
-abbrev pub maxSegments : ℕ
-maxSegments = 16
-
-abbrev pub noSegment : Segment
-noSegment = record { start = record { 0 = 0 }; «load_end» = record { 0 = 0 }; «extent_end» = record { 0 = 0 }; offset = record { 0 = 0 } }
-
-abbrev pub noKernel : Kernel
-noKernel = record { header = record { 0 = 0 }; pages = false; entry = record { 0 = 0 }; segments = replicate maxSegments noSegment; count = 0 }
-
-abbrev pub segmentNo : Kernel → ℕ → Segment
-segmentNo k i = getD (k .segments) i noSegment
-
 -- the segment of `len` bytes from `offset` on: from load_addr to the load end, and the bss behind it
 abbrev pub segmentFor : AddressFields → ℕ → ℕ → Segment
 segmentFor h offset len =
@@ -136,15 +119,3 @@ kernelFor h pages o offset len =
 -- the kernel that an image asks for
 unfoldable pub kernelOf : List ℕ → Kernel
 kernelOf image = kernelFor (headerFields image) (onPages (headerFlags image)) (headerOffset image) (firstLoaded image) (countLoaded image)
-
--- a refusal comes with zeros
-abbrev pub refused : Answer → Judged
-refused a = record { answer = a; kernel = noKernel }
-
--- a load comes with its kernel
-unfoldable pub withKernel : Answer → Kernel → Judged
-withKernel a k = record { answer = a; kernel = cond (isLoad a) k noKernel }
-
--- the first check that applies gives the answer
-unfoldable pub judged : List ℕ → Judged
-judged image = withKernel (firstOf (imageChecks image) Load) (kernelOf image)

@@ -1,43 +1,48 @@
 -- What is known of an image that no check refuses, and of the kernel that it asks for.
---     judged-answer, judged-load                    the parts of the answer for an image
---     image-refuses                                 the checks on it refuse
---     high-bits                                     flag bits that are ignored
---     ImagePassed, image-passed, not-cut-off                   no check applies
---     segment                                       the kernel's one segment
---     GoodKernel, good-kernel                            where its header, its load bytes and its entry lie
---     Calculated, calculated                        its addresses, by the numbers in the header
---     KernelSmall, kernel-small                                  how large its addresses are
+--     judged-answer, judged-load                the parts of the answer for an image
+--     image-refuses                             the checks on it refuse
+--     high-bits                                 flag bits that are ignored
+--     ImagePassed, image-passed, not-cut-off    no check applies
+--     segment                                   the kernel's one segment
+--     GoodKernel, good-kernel                   where its header, its load bytes and its entry lie
+--     Calculated, calculated                    its addresses, by the numbers in the header
+--     KernelSmall, kernel-small                 how large its addresses are
 -- Assumes nothing.
 use mathlib.Core.Path.{_≡_, refl, ap, sym}
 use mathlib.Core.Bool.{true, false, not, _&&_, false≢true}
+use mathlib.Core.Logic.{_↔_}
 use mathlib.Core.List.{List, _∷_}
-use Prim.Native.Nat.{ℕ, zero, suc, _+_, _-_, _*_, _/_, _%_, _^_, _≤_, _<_, max}
+use Prim.Native.Nat.{ℕ, zero, suc, _+_, _-_, _*_, _/_, _%_, _^_, _≤_, _<_}
 use native.Mathlib.Omega.{arith}
-use borrow.Author.Tests.{ltb-false, leb-false, eq-eqb, ne-eqb}
+use borrow.Author.Tests.{ltb-false, leb-false, eq-eqb, ne-eqb, eqb-false, not-true}
 use lib.Dec.{eqb, leb, ltb}
 use lib.ListN.{length, getD, replicate}
 use Rattle.laws.specs.Checks.{firstOf}
 use Rattle.laws.specs.TestLaws.{or-none-left, or-none-right}
+use Rattle.laws.specs.TableLaws.{replicate-at}
 use Rattle.number.specs.Number.{numberAt}
 use Rattle.number.specs.NumberLaws.{Bytes, bytes-drop, number-bound}
-use Rattle.laws.specs.TableLaws.{replicate-at}
 use Rattle.answer.specs.ChainLaws.{refuses, check-passed}
 use Rattle.answer.specs.declared.Answer.the-variants.{Load, NoHeader, UnknownRequest, NoAddressFields, HeaderCutOff, LoadBeforeImage, NothingToLoad, LoadPastImage, BssBelowLoadEnd, EntryOutsideLoad}
 use Rattle.header.specs.declared.Search.{Search}
 use Rattle.header.specs.declared.Search.the-variants.{At, Nothing}
+use Rattle.header.specs.Header.{searchLimit, header}
+use Rattle.header.specs.HeaderLaws.{header-lowest}
 use Rattle.image.specs.declared.load.AddressFields.{AddressFields}
 use Rattle.image.specs.declared.Segment.{Segment}
 use Rattle.image.specs.declared.Kernel.{Kernel}
-use Rattle.header.specs.Header.{searchLimit, header}
 use Rattle.image.specs.Load.{flagsAt, fieldsAt, fullHeader, onPages, loadLength, loadEnd}
-use Rattle.image.specs.Judged.{noHeader, offsetOf, headerOffset, headerFlags, headerFields, firstLoaded, countLoaded, unknownRequest, noAddresses, cutOff, beforeImage, nothingLeft, pastImage, bssBelow, entryOutside, headerChecks, loadChecks, imageChecks, noSegment, segmentNo, kernelFor, kernelOf, withKernel, judged}
+use Rattle.image.specs.Judged.{noHeader, offsetOf, headerOffset, headerFlags, headerFields, firstLoaded, countLoaded, unknownRequest, noAddresses, cutOff, beforeImage, nothingLeft, pastImage, bssBelow, entryOutside, headerChecks, loadChecks, imageChecks, kernelFor, kernelOf}
+use Rattle.image.specs.Judge.{withKernel, judged}
+use Rattle.image.specs.Kernel.{noSegment, segmentNo}
+use Rattle.image.specs.Calculated.{Calculated}
 
 module _ (image : List ℕ) where
   pub judged-answer : judged image .answer ≡ firstOf (imageChecks image) Load
   unfolding judged withKernel
   judged-answer = refl
 
-  -- an good-kernel image comes with its kernel
+  -- an accepted image comes with its kernel
   pub judged-load : firstOf (imageChecks image) Load ≡ Load → judged image .kernel ≡ kernelOf image
   unfolding judged withKernel
   judged-load e = rw e
@@ -152,22 +157,26 @@ good-kernel image e =
       end = omega arith;
     }
 
--- the load calculation, in the numbers that stand in the header: header_addr at 12, load_addr at 16, load_end_addr at 20,
--- bss_end_addr at 24, entry_addr at 28
-pub record Calculated (image : List ℕ) (k : Kernel) : Type 0 where
-  pub start : segment k .start .0 ≡ numberAt 4 image (k .header .0 + 16)
-  pub offset : segment k .offset .0 + numberAt 4 image (k .header .0 + 12) ≡ k .header .0 + numberAt 4 image (k .header .0 + 16)
-  pub whole : numberAt 4 image (k .header .0 + 20) ≡ 0 → segment k .«load_end» .0 ≡ segment k .start .0 + (length image - segment k .offset .0)
-  pub given : (numberAt 4 image (k .header .0 + 20) ≡ 0 → ⊥) → segment k .«load_end» .0 ≡ numberAt 4 image (k .header .0 + 20)
-  pub end : segment k .«extent_end» .0 ≡ max (segment k .«load_end» .0) (numberAt 4 image (k .header .0 + 24))
-  pub entry : k .entry .0 ≡ numberAt 4 image (k .header .0 + 28)
+-- bit 0 of the flags, as a test
+odd : (f : ℕ) → (onPages f ≡ true) ↔ (f % 2 ≡ 1)
+odd f = (
+  λ e. let n = eqb-false (f % 2) 0 (not-true _ e) in omega arith,
+  λ e. let n : f % 2 ≡ 0 → ⊥ = λ z. omega arith in rw (ne-eqb (f % 2) 0 n) refl,
+)
 
 pub calculated : (image : List ℕ) → firstOf (imageChecks image) Load ≡ Load → Calculated image (kernelOf image)
 unfolding kernelOf kernelFor fieldsAt loadLength
 calculated image e =
     let p = image-passed image e in
     let b = not-before (headerFields image) (headerOffset image) (p .after) in
+    let g = good-kernel image e in
+    let l = header-lowest image (kernelOf image .header) (g .found) in
     record {
+      header = l .0;
+      lowest = l .1;
+      pages = odd (headerFlags image);
+      one = refl;
+      rest = g .rest;
       start = refl;
       offset = omega arith;
       whole = λ z. rw (eq-eqb _ 0 z) refl;

@@ -1,5 +1,8 @@
 -- The definitions that the contracts of `image` cite, and their laws.
 pub mod Load
 pub mod Narrow
+pub mod Kernel
+pub mod Judge
 pub mod Judged
+pub mod Calculated
 pub mod JudgedLaws

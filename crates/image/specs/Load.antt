@@ -1,7 +1,7 @@
 -- The header's fields and the load calculation.                                          rule: LOAD
 --     flagsAt, onPages, fieldsAt, fullHeader    what a header says
---     loadOffset, loadLength                     which of the image's bytes are loaded
---     loadEnd, extentEnd                         where the load and the kernel end
+--     loadOffset, loadLength                    which of the image's bytes are loaded
+--     loadEnd, extentEnd                        where the load and the kernel end
 -- Sums are exact whole numbers. h are the address fields of a header, o is its offset, n the length of its image.
 -- Assumes nothing.
 use mathlib.Core.Bool.{Bool, cond, not}

@@ -10,7 +10,9 @@ ghost use Rattle.laws.specs.Checks.{firstOf};
 ghost use Rattle.header.specs.Header.{header};
 ghost use Rattle.image.specs.Load.{onPages, loadLength, loadEnd};
 ghost use Rattle.image.specs.Narrow.{Narrow};
-ghost use Rattle.image.specs.Judged.{loadChecks, noSegment, noKernel, kernelFor, refused, withKernel, judged};
+ghost use Rattle.image.specs.Judged.{loadChecks, kernelFor};
+ghost use Rattle.image.specs.Judge.{refused, withKernel, judged};
+ghost use Rattle.image.specs.Kernel.{noSegment, noKernel};
 
 mod check;
 mod load;

@@ -1,7 +1,7 @@
 -- What is placed, and beside what.                                                                   rule: PLACING
---     extentNo, extentsOf    the kernel's extents
---     loadItem, itemsOf        the modules from index 0, then the information block
---     moduleSpans            the modules' spans among those placed, zeros past the last
+--     extentsOf            the kernel's extents
+--     loadItem, itemsOf    the modules from index 0, then the information block
+--     moduleSpans          the modules' spans among those placed, zeros past the last
 -- Assumes nothing.
 use mathlib.Core.Bool.{Bool, false, cond}
 use mathlib.Core.List.{List}
@@ -9,20 +9,17 @@ use Prim.Native.Nat.{ℕ, _+_}
 use lib.Dec.{ltb}
 use Rattle.laws.specs.Table.{table}
 use Rattle.address.specs.declared.Span.{Span}
-use Rattle.address.specs.Address.{noSpan, spanNo}
+use Rattle.address.specs.Span.{noSpan, spanNo}
 use Rattle.submission.specs.declared.Layout.{Layout}
-use Rattle.submission.specs.Format.{maxModules, moduleNo}
+use Rattle.submission.specs.Layout.{moduleNo}
+use Rattle.submission.specs.Format.{maxModules}
 use Rattle.image.specs.declared.Kernel.{Kernel}
-use Rattle.image.specs.Judged.{segmentNo}
+use Rattle.image.specs.Kernel.{extentNo}
 use Rattle.placement.specs.declared.Item.{Item}
 use Rattle.placement.specs.declared.Items.{Items}
 use Rattle.placement.specs.declared.Spans.{Spans}
 use Rattle.placement.specs.Free.{maxSpans}
 use Rattle.placement.specs.Order.{maxItems, noItem}
-
--- a segment's extent runs from its start to its end, bss included
-abbrev pub extentNo : Kernel → ℕ → Span
-extentNo k i = record { start = segmentNo k i .start; end = segmentNo k i .«extent_end» }
 
 unfoldable pub extentsOf : Kernel → Spans
 extentsOf k = record { list = table (extentNo k) (k .count) maxSpans noSpan; count = k .count }

@@ -12,7 +12,7 @@ use lib.ListN.{length}
 use Rattle.laws.specs.TestLaws.{lt-or-le}
 use Rattle.laws.specs.TableLaws.{table-at}
 use Rattle.submission.specs.declared.Layout.{Layout}
-use Rattle.submission.specs.Format.{moduleNo}
+use Rattle.submission.specs.Layout.{moduleNo}
 use Rattle.placement.specs.declared.Item.{Item}
 use Rattle.placement.specs.Order.{maxItems, itemNo, noItem}
 use Rattle.items.specs.LoadItems.{loadItem, itemsOf}

@@ -10,8 +10,8 @@ ghost use mathlib.Core.Path.{_≡_};
 ghost use Prim.Native.Nat.{_+_, _≤_};
 ghost use Rattle.submission.specs.Format.{maxModules};
 ghost use Rattle.placement.specs.Free.{maxSpans};
-ghost use Rattle.image.specs.Judged.{maxSegments};
-ghost use Rattle.items.specs.LoadItems.{extentNo, extentsOf, loadItem, itemsOf, moduleSpans};
+ghost use Rattle.image.specs.Kernel.{maxSegments, extentNo};
+ghost use Rattle.items.specs.LoadItems.{extentsOf, loadItem, itemsOf, moduleSpans};
 
 // The kernel's extents, as spans taken.
 pub fn extents(kernel: Kernel) -> Spans

@@ -1,9 +1,9 @@
 -- What proves that an answer is the first of a chain of checks: `search chain depth 20`.
---     chain                          the rule set
---     none, here, on                 no check is left, the first applies, it does not
---     or-left to not-to-false        a test of tests is true, or is not
---     passes-append                  no check of two chains applies where none of either does
---     passes-on                      a chain of which no check applies gives what stands behind it
+--     chain                      the rule set
+--     none, here, on             no check is left, the first applies, it does not
+--     or-left to not-to-false    a test of tests is true, or is not
+--     passes-append              no check of two chains applies where none of either does
+--     passes-on                  a chain of which no check applies gives what stands behind it
 -- Assumes nothing.
 use mathlib.Core.Path.{_≡_, refl, sym}
 use mathlib.Core.Bool.{Bool, true, false, not, _&&_, _||_, and-assoc}

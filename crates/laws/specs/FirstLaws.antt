@@ -1,15 +1,19 @@
 -- Laws of the search for the lowest number that passes a test.
---     first-none, first-at                what the search answers
---     lowest, at-lowest, none-lowest      what its answer says of all numbers of the range
+--     first-none, first-at              what the search answers
+--     lowest, at-lowest, none-lowest    what its answer says of all numbers of the range
 -- Assumes nothing.
-use Prim.Native.Nat.{ℕ, zero, suc, _+_, _≤_, _<_}
 use mathlib.Core.Path.{_≡_, refl, ap, _∙_, subst}
-use mathlib.Core.Bool.{Bool, true, false}
 use mathlib.Core.Logic.{⊎-elim}
+use mathlib.Core.Bool.{Bool, true, false}
+use Prim.Native.Nat.{ℕ, zero, suc, _+_, _≤_, _<_}
 use native.Mathlib.Nat.{eq-or-lt-of-le}
 use native.Mathlib.Omega.{arith}
 use Rattle.laws.specs.TestLaws.{true-or-false}
-use Rattle.laws.specs.First.{Found, none, at, first, Lowest}
+use Rattle.laws.specs.First.{Found, none, at, first}
+
+abbrev pub Lowest : (ℕ → Bool) → ℕ → ℕ → Found → Type 0
+Lowest p k lo none = (s : ℕ) → lo ≤ s → s < lo + k → p s ≡ false
+Lowest p k lo (at a) = (lo ≤ a) × (a < lo + k) × (p a ≡ true) × ((s : ℕ) → lo ≤ s → s < a → p s ≡ false)
 
 module _ (p : ℕ → Bool) where
   pub first-none : (k lo : ℕ) → ((s : ℕ) → lo ≤ s → s < lo + k → p s ≡ false) → first p k lo ≡ none

@@ -1,9 +1,9 @@
 -- Laws of lists by index.
---     length-listed, length-table         how long they are
---     listed-at, table-at, table-past     what stands at an index
---     listed-more, listed-same            one value more; functions that agree
---     map-listed                          the values of a function, each taken further
---     table-more, table-none              one value more, stored where the next goes; no value yet
+--     length-listed, length-table                     how long they are
+--     take-listed, listed-at, table-at, table-past    what stands at an index
+--     listed-more, listed-same                        one value more; functions that agree
+--     map-listed                                      the values of a function, each taken further
+--     table-more, table-none                          one value more, stored where the next goes; no value yet
 -- Assumes nothing.
 use mathlib.Core.Path.{_≡_, refl, ap, _∙_}
 use mathlib.Core.List.{List, [], _∷_, _++_, append-assoc, map}
@@ -12,8 +12,8 @@ use Prim.Native.Nat.{ℕ, zero, suc, _+_, _-_, _≤_, _<_}
 use native.Mathlib.Nat.{eq-or-lt-of-le, le-of-suc-le-suc, sub-zero}
 use native.Mathlib.Numerals.{add-one}
 use native.Mathlib.Omega.{arith}
-use lib.ListN.{length, getD, set, replicate, length-append, length-replicate, List·getD-append}
-use lib.Seq.{set-at, getD-at, getD-append-add}
+use lib.ListN.{length, getD, set, replicate, length-append, length-replicate, List·getD-append, take}
+use lib.Seq.{set-at, getD-at, getD-append-add, take-all, take-append-le}
 use Rattle.laws.specs.Table.{listed, table}
 
 -- a place of an array that nothing was stored at
@@ -47,6 +47,15 @@ module _ {A : Type 0} (f : ℕ → A) where
   unfolding listed
   length-listed zero = refl
   length-listed (suc n) = length-append (listed f n) (f n ∷ []) ∙ omega (arith, length-listed n)
+
+  pub take-listed : (n i : ℕ) → i ≤ n → take i (listed f n) ≡ listed f i
+  unfolding listed
+  take-listed zero i l = let e : i ≡ 0 = omega arith in rw e
+  take-listed (suc n) i l =
+      ⊎-elim
+      (λ (e : i ≡ suc n). rw e (take-all (suc n) (listed f (suc n)) (omega (arith, length-listed (suc n)))))
+      (λ (m : i < suc n). take-append-le i (listed f n) (f n ∷ []) (omega (arith, length-listed n)) ∙ take-listed n i (omega arith))
+      (eq-or-lt-of-le l)
 
   pub listed-at : (n i : ℕ) (z : A) → i < n → getD (listed f n) i z ≡ f i
   unfolding listed

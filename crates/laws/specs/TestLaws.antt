@@ -1,22 +1,23 @@
 -- Laws of tests, and of tests over a range of numbers.
---     true-or-false, or-cases, lt-or-le       what is decided
---     or-none-left, or-none-right             neither of two tests passes
---     and-left, and-right                     both of two tests pass
---     any-here, any-at, any-none, none-any    some number passes, or none does
---     any-more, any-same, any-past            one number more; tests that agree; no number passes from n on
---     all-intro, all-elim, all-not            each number passes, or one does not
---     all-zero, all-more                      no number, and one number more
---     run-is, run-says                        where a run ends
+--     true-or-false, or-cases, lt-or-le                          what is decided
+--     or-none-left, or-none-right                                neither of two tests passes
+--     and-left, and-right                                        both of two tests pass
+--     eqb-is, ltb-is, leb-is, not-is, false-is, or-is, and-is    what a test says
+--     any-here, any-at, any-none, none-any                       some number passes, or none does
+--     any-more, any-same, any-past                               one number more; tests that agree; no number passes from n on
+--     all-intro, all-elim, all-not                               each number passes, or one does not
+--     all-zero, all-more                                         no number, and one number more
+--     run-is, run-says                                           where a run ends
 -- Assumes nothing.
-use Prim.Native.Nat.{ℕ, zero, suc, _+_, _-_, _≤_, _<_}
 use mathlib.Core.Path.{_≡_, refl, sym, ap, _∙_}
-use mathlib.Core.Bool.{Bool, true, false, _&&_, _||_, or-true, or-false, false≢true}
-use mathlib.Core.Logic.{⊎-elim, _⊎_, inl, inr}
+use mathlib.Core.Bool.{Bool, true, false, not, _&&_, _||_, or-true, or-false, false≢true}
+use mathlib.Core.Logic.{_↔_, ⊎-elim, _⊎_, inl, inr}
+use Prim.Native.Nat.{ℕ, zero, suc, _+_, _-_, _≤_, _<_}
 use native.Mathlib.Nat.{eq-or-lt-of-le, le-of-suc-le-suc, add-zero}
 use native.Mathlib.Numerals.{add-one}
 use native.Mathlib.Omega.{arith}
-use borrow.Author.Tests.{leb-true, leb-false}
-use lib.Dec.{leb}
+use borrow.Author.Tests.{leb-true, leb-false, le-leb, ltb-true, lt-ltb, eqb-true, eq-eqb}
+use lib.Dec.{eqb, leb, ltb}
 use Rattle.laws.specs.Tests.{any, allFrom, run}
 
 -- a test is true or false
@@ -49,6 +50,33 @@ and-right false false e = e
 -- an order of two numbers, decided
 pub lt-or-le : (a b : ℕ) → (a < b) ⊎ (b ≤ a)
 lt-or-le a b = ⊎-elim (λ t. inr (leb-true b a t)) (λ t. inl (leb-false b a t)) (true-or-false (leb b a))
+
+-- what tests say: of two numbers, of a test that fails, of one of two, and of both
+pub eqb-is : (a b : ℕ) → (eqb a b ≡ true) ↔ (a ≡ b)
+eqb-is a b = (eqb-true a b, eq-eqb a b)
+
+pub ltb-is : (a b : ℕ) → (ltb a b ≡ true) ↔ (a < b)
+ltb-is a b = (ltb-true a b, lt-ltb a b)
+
+pub leb-is : (a b : ℕ) → (leb a b ≡ true) ↔ (a ≤ b)
+leb-is a b = (leb-true a b, le-leb a b)
+
+module _ {P : Type 0} where
+  pub not-is : (t : Bool) → (t ≡ true) ↔ P → (not t ≡ true) ↔ (P → ⊥)
+  not-is true h = (λ e. absurd (false≢true e), λ n. absurd (n (h .0 refl)))
+  not-is false h = (λ e p. false≢true (h .1 p), λ n. refl)
+
+  pub false-is : (t : Bool) → (t ≡ false) ↔ P → (t ≡ true) ↔ (P → ⊥)
+  false-is true h = (λ e p. false≢true (sym (h .1 p)), λ n. refl)
+  false-is false h = (λ e. absurd (false≢true e), λ n. absurd (n (h .0 refl)))
+
+  pub or-is : {Q : Type 0} (s t : Bool) → (s ≡ true) ↔ P → (t ≡ true) ↔ Q → (s || t ≡ true) ↔ (P ⊎ Q)
+  or-is true t f g = (λ e. inl (f .0 refl), λ h. refl)
+  or-is false t f g = (λ e. inr (g .0 e), λ h. ⊎-elim (λ p. absurd (false≢true (f .1 p))) (λ q. g .1 q) h)
+
+  pub and-is : {Q : Type 0} (s t : Bool) → (s ≡ true) ↔ P → (t ≡ true) ↔ Q → (s && t ≡ true) ↔ (P × Q)
+  and-is true t f g = (λ e. (f .0 refl, g .0 e), λ h. g .1 (h .1))
+  and-is false t f g = (λ e. absurd (false≢true e), λ h. absurd (false≢true (f .1 (h .0))))
 
 -- a number below suc k is below k, or is k
 below-suc : (i k : ℕ) → i < suc k → (i ≡ k) ⊎ (i < k)

@@ -4,8 +4,8 @@
 --     run f a k        how many of the k numbers from a on pass one after the other, from the first
 -- Proofs go by the laws of these, so that no check walks through a range of addresses; only worked examples open them.
 -- Assumes nothing.
-use Prim.Native.Nat.{ℕ, zero, suc, _+_}
 use mathlib.Core.Bool.{Bool, true, false, cond, _&&_, _||_}
+use Prim.Native.Nat.{ℕ, zero, suc, _+_}
 
 unfoldable pub any : (ℕ → Bool) → ℕ → Bool
 any f zero = false

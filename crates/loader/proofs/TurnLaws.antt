@@ -11,17 +11,17 @@ use Rattle.buffer.specs.PatchedLaws.{length-patched, patched-append}
 use Rattle.buffer.specs.Writes.{Write, written}
 use Rattle.buffer.specs.WritesLaws.{written-append}
 use Rattle.address.specs.declared.Span.{Span}
-use Rattle.address.specs.Address.{spanNo}
+use Rattle.address.specs.Span.{spanNo}
 use Rattle.submission.specs.declared.Layout.{Layout}
-use Rattle.submission.specs.Format.{bytesOf, moduleNo}
+use Rattle.submission.specs.Layout.{bytesOf, moduleNo}
 use Rattle.command_line.specs.CommandLine.{commandLine}
+use Rattle.image.specs.declared.Kernel.{Kernel}
+use Rattle.image.specs.Kernel.{segmentNo}
 use Rattle.memory_map.specs.declared.ParsedMap.{ParsedMap}
-use Rattle.memory_map.specs.Pairs.{parsedMap}
+use Rattle.memory_map.specs.Parse.{parsedMap}
 use Rattle.usable.specs.Sizes.{memLower, memUpper}
 use Rattle.block.specs.Block.{contentsOf, blockOf}
 use Rattle.block.specs.Writing.{Room}
-use Rattle.image.specs.declared.Kernel.{Kernel}
-use Rattle.image.specs.Judged.{segmentNo}
 use Rattle.loader.specs.Memory.{segmentWrite, moduleWrite, contentsFor}
 
 -- no write yet

@@ -1,9 +1,9 @@
 -- What is known of a load: where each of its spans lies.
---     Loads, loads            no check refuses: what the stages have shown
---     spanIn, countIn         the spans of a load: the kernel's extents, the modules, and the information block
---     Inside, span-inside     each of them lies in open memory, so inside the window and below the top
---     span-apart              no two of them share an address, but for two extents of the kernel
---     module-span, block-span the plan's modules and block among them
+--     Loads, loads                             no check refuses: what the stages have shown
+--     spanIn, countIn                          the spans of a load: the kernel's extents, the modules, and the information block
+--     Inside, span-inside                      each of them lies in open memory, so inside the window and below the top
+--     span-apart                               no two of them share an address, but for two extents of the kernel
+--     module-span, modules-past, block-span the plan's modules and block among them
 --     module-span-length, block-span-length    how long they are
 -- Assumes nothing.
 use mathlib.Core.Path.{_≡_, refl, sym, ap, _∙_}
@@ -13,26 +13,29 @@ use Prim.Native.Nat.{ℕ, _+_, _-_, _≤_, _<_}
 use native.Mathlib.Omega.{arith}
 use lib.ListN.{length}
 use Rattle.laws.specs.TestLaws.{all-elim, lt-or-le}
-use Rattle.laws.specs.TableLaws.{table-at}
-use Rattle.address.specs.Address.{top, noSpan, spanNo}
+use Rattle.laws.specs.TableLaws.{table-at, table-past}
+use Rattle.address.specs.Address.{top}
+use Rattle.address.specs.Span.{noSpan, spanNo, Holds}
 use Rattle.address.specs.declared.Span.{Span}
 use Rattle.answer.specs.Answer.{isLoad}
 use Rattle.answer.specs.ChainLaws.{chain-append, or-else-load}
-use Rattle.submission.specs.Format.{maxModules, moduleNo}
+use Rattle.submission.specs.Layout.{moduleNo}
+use Rattle.submission.specs.Format.{maxModules}
 use Rattle.image.specs.JudgedLaws.{good-kernel}
+use Rattle.image.specs.Kernel.{extentNo}
 use Rattle.board.specs.Open.{isOpen}
 use Rattle.board.specs.OpenLaws.{open-is}
 use Rattle.placement.specs.declared.Item.{Item}
 use Rattle.placement.specs.Free.{maxSpans}
-use Rattle.address.specs.InsideLaws.{Holds}
 use Rattle.placement.specs.Order.{itemNo}
-use Rattle.placement.specs.Placing.{InOrder, Stands}
-use Rattle.decision.specs.Lent.{Lent, layoutIn, imageIn, kernelIn, boardIn, blockLengthIn}
-use Rattle.items.specs.LoadItems.{extentNo, extentsOf, itemsOf, moduleSpans}
+use Rattle.placement.specs.InOrder.{InOrder, ItemStands}
+use Rattle.items.specs.LoadItems.{extentsOf, itemsOf, moduleSpans}
+use Rattle.items.specs.LoadItemsLaws.{item-at, item-module, item-block}
+use Rattle.decision.specs.Lent.{Lent}
+use Rattle.decision.specs.Read.{layoutIn, imageIn, kernelIn, boardIn, blockLengthIn}
 use Rattle.decision.specs.Decided.{extentOpen, kernelOpen, kernelChecks, planOf}
 use Rattle.decision.specs.Decision.{lentChecks, checks, answerOf, placedIn, planIn}
 use Rattle.decision.specs.DecisionLaws.{lent-refuses, LentPassed, lent-passed, prepared}
-use Rattle.items.specs.LoadItemsLaws.{item-at, item-module, item-block}
 use Rattle.decision.specs.PlacedLaws.{item-some, load-in-order}
 use Rattle.decision.specs.StageLaws.{kernel-refuses, kernel-passed, all-placed}
 
@@ -81,7 +84,7 @@ module _ (x : Lent) (l : Loads x) where
   kernel-span j h = order .kept j h ∙ table-at (extentNo (kernelIn x)) maxSpans noSpan (kernelIn x .count) j h
 
   -- then the items
-  pub item-span : (i : ℕ) → i < layoutIn x .count + 1 → Stands (isOpen (boardIn x)) (placedIn x .spans) (kernelIn x .count + i) (itemNo (itemsOf (layoutIn x) (kernelIn x .pages) (blockLengthIn x)) i)
+  pub item-span : (i : ℕ) → i < layoutIn x .count + 1 → ItemStands (isOpen (boardIn x)) (placedIn x .spans) (kernelIn x .count + i) (itemNo (itemsOf (layoutIn x) (kernelIn x .pages) (blockLengthIn x)) i)
   unfolding extentsOf
   item-span i h = order .stands i (omega (arith, all-done))
 
@@ -142,6 +145,10 @@ module _ (x : Lent) (l : Loads x) where
   pub module-span : (i : ℕ) → i < layoutIn x .count → spanNo (planIn x .modules) i ≡ spanIn x (kernelIn x .count + i)
   unfolding planOf moduleSpans
   module-span i h = table-at (λ j. spanNo (placedIn x .spans .list) (kernelIn x .count + j)) maxModules noSpan (layoutIn x .count) i h
+
+  pub modules-past : (i : ℕ) → layoutIn x .count ≤ i → spanNo (planIn x .modules) i ≡ noSpan
+  unfolding planOf moduleSpans
+  modules-past i l = table-past (λ j. spanNo (placedIn x .spans .list) (kernelIn x .count + j)) maxModules noSpan (layoutIn x .count) i l
 
   pub block-span : planIn x .block ≡ spanIn x (kernelIn x .count + layoutIn x .count)
   unfolding planOf

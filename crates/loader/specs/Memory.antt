@@ -1,32 +1,30 @@
 -- The window after a load.                                                            rule: WRITING
---     segmentWrite, segmentWrites    a segment: its load bytes, then zeros over its bss; all of them
---     moduleWrite, moduleWrites      a module's data; that of all modules
+--     segmentWrite, segmentWrites            a segment: its load bytes, then zeros over its bss; all of them
+--     moduleWrite, moduleWrites              a module's data; that of all modules
 --     contentsFor, contentsIn, blockWrite    the information block
---     writesOf        all writes of a load
---     memoryAfter     the window after a load, and after a refusal
---     PlanOfLoad          a plan is that of a load
+--     writesOf                               all writes of a load
+--     memoryAfter                            the window after a load, and after a refusal
 -- Assumes nothing.
-use mathlib.Core.Path.{_≡_}
-use mathlib.Core.Bool.{true, cond}
+use mathlib.Core.Bool.{cond}
 use mathlib.Core.List.{List, [], _∷_, _++_}
 use Prim.Native.Nat.{ℕ, _-_}
 use Rattle.laws.specs.Table.{listed}
 use Rattle.buffer.specs.Patched.{zeros}
 use Rattle.buffer.specs.Writes.{Write, written}
 use Rattle.address.specs.declared.Span.{Span}
-use Rattle.address.specs.Address.{spanNo}
+use Rattle.address.specs.Span.{spanNo}
 use Rattle.answer.specs.Answer.{isLoad}
 use Rattle.submission.specs.declared.Layout.{Layout}
-use Rattle.submission.specs.Format.{bytesOf, moduleNo}
-use Rattle.image.specs.declared.Kernel.{Kernel}
+use Rattle.submission.specs.Layout.{bytesOf, moduleNo}
 use Rattle.command_line.specs.CommandLine.{commandLine}
-use Rattle.memory_map.specs.Pairs.{parsedMap}
+use Rattle.image.specs.declared.Kernel.{Kernel}
+use Rattle.image.specs.Kernel.{segmentNo}
+use Rattle.memory_map.specs.Parse.{parsedMap}
 use Rattle.usable.specs.Sizes.{memLower, memUpper}
-use Rattle.block.specs.Block.{Contents, contentsOf, blockOf}
-use Rattle.image.specs.Judged.{segmentNo}
-use Rattle.decision.specs.declared.Plan.{Plan}
-use Rattle.decision.specs.Lent.{Lent, layoutIn, imageIn}
+use Rattle.decision.specs.Lent.{Lent}
+use Rattle.decision.specs.Read.{layoutIn, imageIn}
 use Rattle.decision.specs.Decision.{answerOf, planIn}
+use Rattle.block.specs.Block.{Contents, contentsOf, blockOf}
 
 -- the first load byte of segment i stands at its start; f is the window's first address
 unfoldable pub segmentWrite : ℕ → List ℕ → Kernel → ℕ → Write
@@ -64,7 +62,3 @@ writesOf x = segmentWrites x ++ moduleWrites x ++ (blockWrite x ∷ [])
 -- a load makes its writes, and a refusal none
 unfoldable pub memoryAfter : Lent → List ℕ → List ℕ
 memoryAfter x w = cond (isLoad (answerOf x)) (written w (writesOf x)) w
-
-pub record PlanOfLoad (x : Lent) (p : Plan) : Type 0 where
-  pub load : isLoad (answerOf x) ≡ true
-  pub plan : p ≡ planIn x

@@ -1,7 +1,7 @@
 -- What writing a load rests on.
---     spans-low, strings-in, room    the information block can be written
---     layout-read                    the layout read again is the load's
---     all-written                    the three writers together make the writes of a load
+--     spans-low, strings-in, room                       the information block can be written
+--     layout-read                                       the layout read again is the load's
+--     all-written                                       the three writers together make the writes of a load
 --     decision-loaded, memory-loaded, memory-refused    a load and a refusal, as the decision hands them over
 -- Assumes nothing.
 use mathlib.Core.Path.{_≡_, refl, sym, ap, _∙_}
@@ -15,24 +15,27 @@ use Rattle.buffer.specs.Patched.{patched}
 use Rattle.buffer.specs.Writes.{written}
 use Rattle.buffer.specs.WritesLaws.{written-append}
 use Rattle.address.specs.declared.Span.{Span}
-use Rattle.address.specs.Address.{spanNo}
+use Rattle.address.specs.Span.{spanNo}
 use Rattle.answer.specs.Answer.{isLoad}
 use Rattle.submission.specs.declared.Layout.{Layout}
 use Rattle.submission.specs.declared.ParsedSubmission.{ParsedSubmission}
-use Rattle.submission.specs.Format.{maxModules, moduleCount, bytesOf}
+use Rattle.submission.specs.Format.{moduleCount, maxModules}
+use Rattle.submission.specs.Layout.{bytesOf}
 use Rattle.submission.specs.FormatLaws.{layout-count, module-at}
-use Rattle.submission.specs.Rules.{parsedSubmission}
+use Rattle.submission.specs.Parse.{parsedSubmission}
 use Rattle.submission.specs.RuleLaws.{parsed-layout, string-inside}
-use Rattle.block.specs.Block.{blockOf}
-use Rattle.block.specs.Writing.{SpansLow, StringsIn, Room}
-use Rattle.image.specs.Judged.{maxSegments}
+use Rattle.image.specs.Kernel.{maxSegments}
 use Rattle.decision.specs.declared.Plan.{Plan}
-use Rattle.decision.specs.Lent.{Lent, layoutIn, kernelIn, lineIn}
+use Rattle.decision.specs.Lent.{Lent}
+use Rattle.decision.specs.Read.{layoutIn, kernelIn, lineIn}
 use Rattle.decision.specs.declared.Decision.{Decision}
 use Rattle.decision.specs.Decided.{planOf, decidedBy}
 use Rattle.decision.specs.Decision.{answerOf, planIn, decisionOf}
 use Rattle.decision.specs.DecisionLaws.{prepared}
-use Rattle.loader.specs.Memory.{segmentWrite, moduleWrite, contentsFor, contentsIn, blockWrite, segmentWrites, moduleWrites, writesOf, memoryAfter, PlanOfLoad}
+use Rattle.block.specs.Block.{blockOf}
+use Rattle.block.specs.Writing.{SpansLow, StringsIn, Room}
+use Rattle.loader.specs.Memory.{segmentWrite, moduleWrite, contentsFor, contentsIn, blockWrite, segmentWrites, moduleWrites, writesOf, memoryAfter}
+use Rattle.loader.specs.Ready.{PlanOfLoad}
 use Rattle.loader.specs.LoadLaws.{Loads, spanIn, span-inside, module-span, block-span, block-span-length}
 
 module _ (x : Lent) (h : Loads x) where

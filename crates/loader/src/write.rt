@@ -16,9 +16,10 @@ ghost use Rattle.submission.specs.Format.{maxModules};
 ghost use Rattle.command_line.specs.CommandLine.{commandLine};
 ghost use Rattle.block.specs.Block.{blockOf};
 ghost use Rattle.block.specs.Writing.{SpansLow, StringsIn, Room};
-ghost use Rattle.image.specs.Judged.{maxSegments};
+ghost use Rattle.image.specs.Kernel.{maxSegments};
 ghost use Rattle.decision.specs.Lent.{lent};
-ghost use Rattle.loader.specs.Memory.{segmentWrite, moduleWrite, contentsFor, writesOf, PlanOfLoad};
+ghost use Rattle.loader.specs.Memory.{segmentWrite, moduleWrite, contentsFor, writesOf};
+ghost use Rattle.loader.specs.Ready.{PlanOfLoad};
 
 // Writes everything of a load: the kernel, the modules, and the information block.
 pub(crate) fn write_load<'a>(

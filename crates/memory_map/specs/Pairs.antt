@@ -1,36 +1,10 @@
--- The pairs of a lent memory map, and the check that it passes.     rules: MAP, ANSWERS (5)
---     maxPairs, maxMap, minPairSize     the limits of a map
---     noPair, pairNo                  a pair of zeros, and the pair of an index
+-- The pairs of a lent memory map.                                                         rule: MAP
 --     sizeBytes, baseOffset, lengthOffset, kindOffset    where the fields of a pair stand
---     pairOffset, pairCount               where each pair begins, and how many there are
---     pairAt, firstPairs, mapOf       the pairs read
---     badMap, mapChecks               when a map is refused, as one test and as a check of the order
---     noMap, parsedMap                   what reading a map answers
+--     sizeAt, nextOffset, pairOffset                     the size of a pair, and where each pair begins
 -- Assumes nothing.
-use mathlib.Core.Bool.{Bool, cond, _||_}
-use mathlib.Core.List.{List, [], _∷_}
+use mathlib.Core.List.{List}
 use Prim.Native.Nat.{ℕ, zero, suc, _+_}
-use lib.Dec.{ltb, eqb}
-use lib.ListN.{length, getD, replicate}
 use Rattle.number.specs.Number.{numberAt}
-use Rattle.laws.specs.Tests.{any, run}
-use Rattle.laws.specs.Table.{table}
-use Rattle.laws.specs.Checks.{Check, firstOf, _gives_}
-use Rattle.answer.specs.declared.Answer.{Answer}
-use Rattle.answer.specs.declared.Answer.the-variants.{Load, BadMemoryMap}
-use Rattle.memory_map.specs.declared.Pair.{Pair}
-use Rattle.memory_map.specs.declared.MemMap.{MemMap}
-use Rattle.memory_map.specs.declared.ParsedMap.{ParsedMap}
-
--- the most pairs, the most bytes, and the least size
-abbrev pub maxPairs : ℕ
-maxPairs = 32
-
-abbrev pub maxMap : ℕ
-maxMap = 4096
-
-abbrev pub minPairSize : ℕ
-minPairSize = 20
 
 -- a pair is a 4-byte size, then base (8 bytes), length (8), type (4)
 abbrev pub sizeBytes : ℕ
@@ -45,13 +19,6 @@ lengthOffset = 12
 abbrev pub kindOffset : ℕ
 kindOffset = 20
 
-abbrev pub noPair : Pair
-noPair = record { base = 0; length = 0; kind = 0 }
-
--- the pair of the index i
-abbrev pub pairNo : MemMap → ℕ → Pair
-pairNo m i = getD (m .pairs) i noPair
-
 -- the size of the pair at the offset `at`
 abbrev pub sizeAt : List ℕ → ℕ → ℕ
 sizeAt m at = numberAt sizeBytes m at
@@ -64,53 +31,3 @@ nextOffset m at = at + (sizeAt m at + sizeBytes)
 unfoldable pub pairOffset : List ℕ → ℕ → ℕ
 pairOffset m zero = 0
 pairOffset m (suc i) = nextOffset m (pairOffset m i)
-
--- a pair of this index begins before the end of the map
-unfoldable pub begins : List ℕ → ℕ → Bool
-begins m i = ltb (pairOffset m i) (length m)
-
--- how many pairs begin before the end; there are never more than bytes, since each begins pastEnd the one before
-unfoldable pub pairCount : List ℕ → ℕ
-pairCount m = run (begins m) 0 (length m)
-
--- the pair at an offset is too tooSmall
-unfoldable pub tooSmall : List ℕ → ℕ → Bool
-tooSmall m at = ltb (sizeAt m at) minPairSize
-
--- the pair at an offset, its size field included, runs pastEnd the end
-unfoldable pub pastEnd : List ℕ → ℕ → Bool
-pastEnd m at = ltb (length m) (nextOffset m at)
-
--- empty, over 4,096 bytes, over 32 pairs, a size under 20, or a pair running pastEnd the end
-unfoldable pub badMap : List ℕ → Bool
-badMap m =
-    eqb (length m) 0 || ltb maxMap (length m) || ltb maxPairs (pairCount m)
-    || any (λ i. tooSmall m (pairOffset m i)) (pairCount m)
-    || any (λ i. pastEnd m (pairOffset m i)) (pairCount m)
-
-unfoldable pub mapChecks : List ℕ → List (Check Answer)
-mapChecks m = (badMap m gives BadMemoryMap) ∷ []
-
--- the pair at an offset
-unfoldable pub pairAt : List ℕ → ℕ → Pair
-pairAt m at = record {
-  base = numberAt 8 m (at + baseOffset);
-  length = numberAt 8 m (at + lengthOffset);
-  kind = numberAt 4 m (at + kindOffset);
-}
-
--- the first n pairs as a map, with zeros pastEnd the last
-unfoldable pub firstPairs : List ℕ → ℕ → MemMap
-firstPairs m n = record { pairs = table (λ i. pairAt m (pairOffset m i)) n maxPairs noPair; count = n }
-
--- the pairs of a map
-abbrev pub mapOf : List ℕ → MemMap
-mapOf m = firstPairs m (pairCount m)
-
--- the map of a refusal
-abbrev pub noMap : MemMap
-noMap = record { pairs = replicate maxPairs noPair; count = 0 }
-
--- the answer, and the pairs where the map is not refused
-unfoldable pub parsedMap : List ℕ → ParsedMap
-parsedMap m = record { answer = firstOf (mapChecks m) Load; map = cond (badMap m) noMap (mapOf m) }

@@ -1,45 +1,48 @@
 -- Laws of the pairs of a map.
---     Whole, GoodMap                                      pairs that keep their rules; what an accepted map keeps
---     pair-on, count-begins, count-end                    where pairs begin, and that all of them count
---     whole-more, whole-count, whole-next, whole-all      whole pairs, one more, and how many there are
---     broken-bad, empty-bad, long-bad, many-bad           what refuses a map
---     map-good, good-map, good-some, good-fills           a map is accepted exactly where it keeps all its rules
---     map-refuses                                         the check on it refuses
---     parsed-bad, parsed-good, load-good                  what reading a map answers
---     pair-listed, pair-past, length-pairs                which pair stands at which index
---     pair-fits, pairs-fit                                the ranges of a pair's fields
---     parsed-pairs, parsed-length, parsed-fits            the same of what reading a map gives, refused or not
+--     Whole, CountedMap                                 pairs that keep their rules; the rules of a map by their count
+--     pair-on, count-begins, count-end                  where pairs begin, and that all of them count
+--     whole-more, whole-count, whole-next, whole-all    whole pairs, one more, and how many there are
+--     broken-bad, empty-bad, long-bad, many-bad         what refuses a map
+--     counted-good, good-counted, good-is               a map is accepted exactly where it keeps all its rules
+--     good-some, good-fills                             an accepted map has a pair, and its pairs fill it
+--     map-refuses                                       the check on it refuses
+--     parsed-bad, parsed-good, load-good                what reading a map answers
+--     pair-listed, pair-past, length-pairs              which pair stands at which index
+--     pair-fits, pairs-fit                              the ranges of a pair's fields
+--     parsed-pairs, parsed-length, parsed-fits          the same of what reading a map gives, refused or not
 -- Assumes nothing.
 use mathlib.Core.Path.{_≡_, refl, ap, sym, _∙_}
 use mathlib.Core.Bool.{true, false, _||_, false≢true}
 use mathlib.Core.List.{List, []}
-use mathlib.Core.Logic.{⊎-elim}
+use mathlib.Core.Logic.{⊎-elim, _↔_}
 use Prim.Native.Nat.{ℕ, zero, suc, _+_, _-_, _^_, _≤_, _<_}
 use native.Mathlib.Nat.{zero-add, eq-or-lt-of-le, le-of-suc-le-suc}
 use native.Mathlib.Numerals.{add-one}
 use native.Mathlib.Omega.{arith}
+use borrow.Author.Tests.{lt-ltb, le-ltb, ltb-true, ltb-false, eqb-false}
 use lib.Dec.{ltb, eqb}
 use lib.ListN.{length}
-use borrow.Author.Tests.{lt-ltb, le-ltb, ltb-true, ltb-false, eqb-false}
 use Rattle.laws.specs.Tests.{any}
 use Rattle.laws.specs.TestLaws.{Run, run-says, any-here, any-none, none-any, or-cases, or-none-left, or-none-right, lt-or-le, true-or-false}
 use Rattle.laws.specs.TableLaws.{length-table, table-at, table-past, replicate-at}
 use Rattle.laws.specs.Checks.{firstOf}
 use Rattle.laws.specs.CheckLaws.{chain}
+use Rattle.number.specs.NumberLaws.{Bytes, bytes-drop, number-bound}
 use Rattle.answer.specs.declared.Answer.the-variants.{Load, BadMemoryMap}
 use Rattle.answer.specs.ChainLaws.{refuses, check-passed}
-use Rattle.number.specs.NumberLaws.{Bytes, bytes-drop, number-bound}
 use Rattle.memory_map.specs.declared.Pair.{Pair}
-use Rattle.memory_map.specs.Pairs.{maxMap, minPairSize, baseOffset, lengthOffset, kindOffset, sizeAt, nextOffset, pairOffset, begins, pairCount, tooSmall, pastEnd, badMap, mapChecks, pairAt, firstPairs, mapOf, noMap, parsedMap}
-use Rattle.memory_map.specs.Pairs.{maxPairs, noPair, pairNo}
+use Rattle.memory_map.specs.Pairs.{baseOffset, lengthOffset, kindOffset, sizeAt, nextOffset, pairOffset}
+use Rattle.memory_map.specs.Map.{maxMap, minPairSize, begins, pairCount, tooSmall, pastEnd, badMap, mapChecks, pairAt, firstPairs, mapOf, maxPairs, noPair, pairNo}
+use Rattle.memory_map.specs.Parse.{noMap, parsedMap}
+use Rattle.memory_map.specs.GoodMap.{Begins, GoodMap}
 
--- the first n pairs keep their rules: none is too tooSmall, and none runs pastEnd the end
+-- the first n pairs keep their rules: none is too small, and none runs past the end
 pub record Whole (m : List ℕ) (n : ℕ) : Type 0 where
   pub large : (i : ℕ) → i < n → minPairSize ≤ sizeAt m (pairOffset m i)
   pub within : (i : ℕ) → i < n → pairOffset m (suc i) ≤ length m
 
--- what a map keeps that is not refused
-pub record GoodMap (m : List ℕ) : Type 0 where
+-- the rules of a map by the count of its pairs
+pub record CountedMap (m : List ℕ) : Type 0 where
   pub some : 1 ≤ length m
   pub short : length m ≤ maxMap
   pub few : pairCount m ≤ maxPairs
@@ -49,7 +52,7 @@ pub whole-zero : (m : List ℕ) → Whole m 0
 whole-zero m = record { large = λ i l. absurd (omega arith); within = λ i l. absurd (omega arith) }
 
 module _ (m : List ℕ) where
-  -- a pair begins pastEnd the one before it
+  -- a pair begins past the one before it
   pub pair-on : (i : ℕ) → pairOffset m i < pairOffset m (suc i)
   unfolding pairOffset nextOffset
   pair-on i = omega arith
@@ -75,7 +78,7 @@ module _ (m : List ℕ) where
   pub count-begins : (i : ℕ) → i < pairCount m → pairOffset m i < length m
   count-begins i l = begins-is i (counted .passed i (omega arith) (omega arith))
 
-  -- no pair begins pastEnd the last
+  -- no pair begins past the last
   pub count-end : length m ≤ pairOffset m (pairCount m)
   count-end =
       ⊎-elim
@@ -139,9 +142,9 @@ module _ (m : List ℕ) where
   many-bad w l = let h = lt-ltb _ _ (whole-next maxPairs w l) in search chain depth 20
 
   -- a map is not refused exactly where it keeps all its rules
-  pub map-good : GoodMap m → badMap m ≡ false
+  pub counted-good : CountedMap m → badMap m ≡ false
   unfolding badMap tooSmall pastEnd pairOffset
-  map-good g =
+  counted-good g =
       let a : length m ≡ 0 → ⊥ = λ e. omega (arith, g .some) in
       let b = le-ltb maxMap (length m) (g .short) in
       let c = le-ltb maxPairs (pairCount m) (g .few) in
@@ -149,9 +152,9 @@ module _ (m : List ℕ) where
       let e = any-none (λ i. pastEnd m (pairOffset m i)) (pairCount m) (λ i l. le-ltb _ _ (g .whole .within i l)) in
       search chain depth 20
 
-  pub good-map : badMap m ≡ false → GoodMap m
+  pub good-counted : badMap m ≡ false → CountedMap m
   unfolding badMap tooSmall pastEnd pairOffset
-  good-map t =
+  good-counted t =
       let a = eqb (length m) 0 in
       let b = ltb maxMap (length m) in
       let c = ltb maxPairs (pairCount m) in
@@ -170,6 +173,40 @@ module _ (m : List ℕ) where
           within = λ i l. ltb-false _ _ (none-any (λ i. pastEnd m (pairOffset m i)) (pairCount m) (or-none-right (a || b || c || d) e t) i l);
         };
       }
+
+  -- a pair that begins before the end counts
+  pair-order : (i k : ℕ) → pairOffset m i ≤ pairOffset m (i + k)
+  pair-order i zero = let e : i + 0 ≡ i = omega arith in rw e (omega arith)
+  pair-order i (suc k) = let e : i + suc k ≡ suc (i + k) = omega arith in rw e (omega (arith, pair-order i k, pair-on (i + k)))
+
+  pub begins-count : (i : ℕ) → Begins m i → i < pairCount m
+  begins-count i b =
+      ⊎-elim
+      (λ l. l)
+      (λ (l : pairCount m ≤ i). let e : pairCount m + (i - pairCount m) ≡ i = omega arith in absurd (omega (arith, count-end, pair-order (pairCount m) (i - pairCount m), ap (pairOffset m) e)))
+      (lt-or-le i (pairCount m))
+
+  -- the rules of a map, as a test and pair by pair
+  pub good-is : (badMap m ≡ false) ↔ GoodMap m
+  good-is = (
+    λ t.
+        let g = good-counted t in
+        record {
+          some = g .some;
+          short = g .short;
+          few = λ i b. omega (arith, begins-count i b, g .few);
+          large = λ i b. g .whole .large i (begins-count i b);
+          within = λ i b. g .whole .within i (begins-count i b);
+        },
+    λ g.
+        counted-good
+        (record {
+          some = g .some;
+          short = g .short;
+          few = ⊎-elim (λ (l : maxPairs < pairCount m). absurd (omega (arith, g .few maxPairs (count-begins maxPairs l)))) (λ l. l) (lt-or-le maxPairs (pairCount m));
+          whole = record { large = λ i l. g .large i (count-begins i l); within = λ i l. g .within i (count-begins i l) };
+        }),
+  )
 
   -- what reading a map answers
   pub parsed-bad : badMap m ≡ true → record { answer = BadMemoryMap; map = noMap } ≡ parsedMap m
@@ -193,14 +230,14 @@ module _ (m : List ℕ) where
   pub good-some : badMap m ≡ false → 1 ≤ pairCount m
   unfolding pairOffset
   good-some t =
-      let g = good-map t in
+      let g = good-counted t in
       ⊎-elim (λ u. u) (λ (u : pairCount m ≤ 0). let e : pairCount m ≡ 0 = omega arith in absurd (omega (arith, g .some, ap (pairOffset m) e, count-end))) (lt-or-le 0 (pairCount m))
 
   pub good-fills : badMap m ≡ false → pairOffset m (pairCount m) ≡ length m
   good-fills t =
       let s = good-some t in
       let e : suc (pairCount m - 1) ≡ pairCount m = omega arith in
-      let h : pairOffset m (pairCount m) ≤ length m = rw e at (good-map t .whole .within (pairCount m - 1) (omega arith)) in
+      let h : pairOffset m (pairCount m) ≤ length m = rw e at (good-counted t .whole .within (pairCount m - 1) (omega arith)) in
       omega (arith, count-end)
 
 -- the entries of a map of n pairs
@@ -210,7 +247,7 @@ module _ (m : List ℕ) (n : ℕ) where
   unfolding firstPairs
   pair-listed i l = table-at (λ j. pairAt m (pairOffset m j)) maxPairs noPair n i l
 
-  -- pastEnd the last the entries are zero
+  -- past the last the entries are zero
   pub pair-past : (i : ℕ) → n ≤ i → pairNo (firstPairs m n) i ≡ noPair
   unfolding firstPairs
   pair-past i l = table-past (λ j. pairAt m (pairOffset m j)) maxPairs noPair n i l
@@ -244,12 +281,12 @@ pairs-fit m b n i =
 module _ (m : List ℕ) where
   pub parsed-pairs : parsedMap m .map .count ≤ maxPairs
   unfolding parsedMap firstPairs
-  parsed-pairs = ⊎-elim (λ (t : badMap m ≡ true). rw t (omega arith)) (λ (t : badMap m ≡ false). rw t (good-map m t .few)) (true-or-false (badMap m))
+  parsed-pairs = ⊎-elim (λ (t : badMap m ≡ true). rw t (omega arith)) (λ (t : badMap m ≡ false). rw t (good-counted m t .few)) (true-or-false (badMap m))
 
   pub parsed-length : length (parsedMap m .map .pairs) ≡ maxPairs
   unfolding parsedMap
   parsed-length =
-      ⊎-elim (λ (t : badMap m ≡ true). rw t refl) (λ (t : badMap m ≡ false). rw t (length-pairs m (pairCount m) (good-map m t .few))) (true-or-false (badMap m))
+      ⊎-elim (λ (t : badMap m ≡ true). rw t refl) (λ (t : badMap m ≡ false). rw t (length-pairs m (pairCount m) (good-counted m t .few))) (true-or-false (badMap m))
 
   pub parsed-fits : Bytes m → (i : ℕ) → PairFits (pairNo (parsedMap m .map) i)
   unfolding parsedMap

@@ -4,7 +4,9 @@ ghost use mathlib.Core.Path.{_≡_};
 ghost use mathlib.Core.Bool.{_||_};
 ghost use Prim.Native.Nat.{_+_, _^_, _≤_, _<_, min};
 ghost use lib.ListN.{length};
-ghost use Rattle.memory_map.specs.Pairs.{maxPairs, kindOffset, pairAt, tooSmall, pastEnd, parsedMap, noMap};
+ghost use Rattle.memory_map.specs.Pairs.{kindOffset};
+ghost use Rattle.memory_map.specs.Map.{maxPairs, pairAt, tooSmall, pastEnd};
+ghost use Rattle.memory_map.specs.Parse.{parsedMap, noMap};
 
 // The limits of a map.
 pub const MAX_PAIRS: usize = 32;

@@ -1,9 +1,9 @@
 -- Laws of little-endian numbers, over the width.
---     number-bound, number-fits                              how large a number of so many bytes is
---     length-numberBytes, length-wordBytes, wordBytes-append   the bytes of numbers and of rows of words
---     number-written                                         reading back what was written gives the number
---     numberAt-before, numberAt-inside, numberAt-behind      a read before, inside and behind a patched part
---     word-at                                                reading back one of a row of words
+--     number-bound, number-fits                                 how large a number of so many bytes is
+--     length-numberBytes, length-wordBytes, wordBytes-append    the bytes of numbers and of rows of words
+--     number-written                                            reading back what was written gives the number
+--     numberAt-before, numberAt-inside, numberAt-behind         a read before, inside and behind a patched part
+--     word-at                                                   reading back one of a row of words
 -- Assumes nothing.
 use mathlib.Core.Path.{_≡_, refl, ap, _∙_}
 use mathlib.Core.List.{List, [], _∷_, _++_, append-assoc}

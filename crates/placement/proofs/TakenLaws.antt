@@ -9,7 +9,8 @@ use borrow.Author.Tests.{le-ltb}
 use lib.ListN.{length, List·getD-eq-default}
 use Rattle.laws.specs.Tests.{any}
 use Rattle.laws.specs.TestLaws.{any-past}
-use Rattle.address.specs.Address.{inside, noSpan, spanNo}
+use Rattle.address.specs.Address.{inside}
+use Rattle.address.specs.Span.{noSpan, spanNo}
 use Rattle.address.specs.declared.Span.{Span}
 use Rattle.edge.specs.Edge.{edgeUpTo}
 use Rattle.edge.specs.EdgeLaws.{edges-past}

@@ -1,7 +1,7 @@
 -- The lowest place in propositions, over any test of open addresses that ends at 2^32.
---     suits-is             the test of an address is that it suits
---     place-lowest         the place is a exactly where a suits and no lower address does
---     no-room              there is no room exactly where no address suits
+--     suits-is                  the test of an address is that it suits
+--     place-lowest              the place is a exactly where a suits and no lower address does
+--     no-room                   there is no room exactly where no address suits
 --     place-below, place-end    a place is below 2^32, and so is the item's last byte
 -- Assumes nothing.
 use mathlib.Core.Path.{_≡_, refl, sym, ap, _∙_}
@@ -13,8 +13,8 @@ use borrow.Author.Tests.{eq-eqb, eqb-true}
 use lib.Dec.{eqb}
 use Rattle.laws.specs.Tests.{allFrom}
 use Rattle.laws.specs.TestLaws.{true-or-false, lt-or-le, and-left, and-right, all-intro, all-elim}
-use Rattle.laws.specs.First.{Found, none, at, Lowest}
-use Rattle.laws.specs.FirstLaws.{first-at, first-none, at-lowest, none-lowest}
+use Rattle.laws.specs.First.{Found, none, at}
+use Rattle.laws.specs.FirstLaws.{Lowest, first-at, first-none, at-lowest, none-lowest}
 use Rattle.address.specs.declared.PhysAddr.{PhysAddr}
 use Rattle.address.specs.Address.{floor, isMultiple, boundaryOf}
 use Rattle.usable.specs.Usable.{addressSpace}
@@ -23,7 +23,7 @@ use Rattle.placement.specs.declared.Item.{Item}
 use Rattle.placement.specs.declared.Place.the-variants.{At, NoRoom}
 use Rattle.placement.specs.Free.{isFree}
 use Rattle.placement.specs.FreeLaws.{Free, free-is}
-use Rattle.placement.specs.Placing.{Suits}
+use Rattle.placement.specs.InOrder.{ItemSuits}
 use Rattle.placement.specs.Lowest.{fits, lowest, placeOf, lowestPlace}
 
 place-at : (f : Found) (a : PhysAddr) → placeOf f ≡ At a → f ≡ at (a .0)
@@ -37,7 +37,7 @@ place-none none e = refl
 place-none (at b) e = let z : _≡_ {A = ℕ} 0 1 = cc in absurd (omega arith)
 
 module _ (o : ℕ → Bool) (t : Spans) (q : Item) where
-  pub suits-is : (a : ℕ) → ((floor ≤ a) × (fits (isFree o t) q a ≡ true)) ↔ Suits o t q a
+  pub suits-is : (a : ℕ) → ((floor ≤ a) × (fits (isFree o t) q a ≡ true)) ↔ ItemSuits o t q a
   unfolding fits isMultiple
   suits-is a =
       let M : Bool = eqb (a % boundaryOf (q .pages)) 0 in
@@ -53,7 +53,7 @@ module _ (o : ℕ → Bool) (t : Spans) (q : Item) where
         λ h. (h .low, rw (eq-eqb _ _ (h .boundary)) (all-intro (isFree o t) a (q .length) (λ y l u. free-is o t y .1 (record { opened = h .opened y l u; apart = h .apart y l u })))),
       )
 
-  no-fit : (a : ℕ) → floor ≤ a → (fits (isFree o t) q a ≡ false) ↔ (Suits o t q a → ⊥)
+  no-fit : (a : ℕ) → floor ≤ a → (fits (isFree o t) q a ≡ false) ↔ (ItemSuits o t q a → ⊥)
   no-fit a l = (
     λ e h. false≢true (sym e ∙ suits-is a .1 h .1),
     λ h. ⊎-elim (λ e. absurd (h (suits-is a .0 (l, e)))) (λ e. e) (true-or-false (fits (isFree o t) q a)),
@@ -66,7 +66,7 @@ module _ (o : ℕ → Bool) (t : Spans) (q : Item) where
   pub place-below : (a : PhysAddr) → lowestPlace o t q ≡ At a → a .0 < addressSpace
   place-below a e = omega (arith, found a e .1)
 
-  pub place-suits : (a : PhysAddr) → lowestPlace o t q ≡ At a → Suits o t q (a .0)
+  pub place-suits : (a : PhysAddr) → lowestPlace o t q ≡ At a → ItemSuits o t q (a .0)
   place-suits a e = suits-is (a .0) .0 (found a e .0, found a e .2)
 
   module _ (small : (a : ℕ) → o a ≡ true → a < addressSpace) where
@@ -78,10 +78,10 @@ module _ (o : ℕ → Bool) (t : Spans) (q : Item) where
         (lt-or-le 0 (q .length))
 
     module _ (some : 0 < q .length) where
-      below-limit : (a : ℕ) → Suits o t q a → a < addressSpace
+      below-limit : (a : ℕ) → ItemSuits o t q a → a < addressSpace
       below-limit a h = small a (h .opened a (omega arith) (omega arith))
 
-      pub place-lowest : (a : PhysAddr) → (lowestPlace o t q ≡ At a) ↔ (Suits o t q (a .0) × ((s : ℕ) → s < a .0 → Suits o t q s → ⊥))
+      pub place-lowest : (a : PhysAddr) → (lowestPlace o t q ≡ At a) ↔ (ItemSuits o t q (a .0) × ((s : ℕ) → s < a .0 → ItemSuits o t q s → ⊥))
       unfolding lowestPlace lowest
       place-lowest a = (
         λ e. (place-suits a e, λ s l h. no-fit s (h .low) .0 (found a e .3 s (h .low) l) h),
@@ -90,7 +90,7 @@ module _ (o : ℕ → Bool) (t : Spans) (q : Item) where
             (first-at _ _ _ (a .0) (h .0 .low) (omega (arith, below-limit (a .0) (h .0))) (suits-is (a .0) .1 (h .0) .1) (λ s l u. no-fit s l .1 (h .1 s u))),
       )
 
-      pub no-room : (lowestPlace o t q ≡ NoRoom) ↔ ((s : ℕ) → Suits o t q s → ⊥)
+      pub no-room : (lowestPlace o t q ≡ NoRoom) ↔ ((s : ℕ) → ItemSuits o t q s → ⊥)
       unfolding lowestPlace lowest
       no-room = (
         λ e s h. no-fit s (h .low) .0 (none-lowest (fits (isFree o t) q) (addressSpace - floor) floor (place-none _ e) s (h .low) (omega (arith, below-limit s h))) h,

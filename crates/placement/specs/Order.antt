@@ -1,9 +1,9 @@
 -- The items of a load placed in order.                                                            rule: PLACING
---     maxItems              how many items there are at most: 16 modules and the information block
---     noItem, itemNo        an item of zeros, and the item of an index
---     spanOf, withSpan      the span of an item at its place, and the spans with one more
---     placedFrom    k items from the item i on, each at its lowest place beside the spans before it, up to the first with no room
---     placeItems    all items placed beside the spans taken
+--     maxItems            how many items there are at most: 16 modules and the information block
+--     noItem, itemNo      an item of zeros, and the item of an index
+--     spanOf, withSpan    the span of an item at its place, and the spans with one more
+--     placedFrom          k items from the item i on, each at its lowest place beside the spans before it, up to the first with no room
+--     placeItems          all items placed beside the spans taken
 -- Assumes nothing.
 use mathlib.Core.Bool.{Bool, false}
 use Prim.Native.Nat.{ℕ, zero, suc, _+_}

@@ -1,7 +1,7 @@
 -- Adding a span, and placing one item after the other.
 --     with-count, with-length, with-keeps, with-new    the spans with one more
---     suits-fewer, suits-with           what suits beside fewer spans, and beside one more
---     from-at, from-none, from-end      one item is placed and the rest goes on; it has no room; no item is left
+--     suits-fewer, suits-with                          what suits beside fewer spans, and beside one more
+--     from-at, from-none, from-end                     one item is placed and the rest goes on; it has no room; no item is left
 -- Assumes nothing.
 use mathlib.Core.Path.{_≡_, refl}
 use mathlib.Core.Bool.{Bool}
@@ -13,14 +13,13 @@ use lib.ListN.{length, length-set}
 use lib.Seq.{getD-set-same, getD-set-other}
 use Rattle.address.specs.declared.PhysAddr.{PhysAddr}
 use Rattle.address.specs.declared.Span.{Span}
+use Rattle.address.specs.Span.{spanNo, Holds}
 use Rattle.placement.specs.declared.Spans.{Spans}
 use Rattle.placement.specs.declared.Item.{Item}
 use Rattle.placement.specs.declared.Items.{Items}
 use Rattle.placement.specs.declared.Place.the-variants.{At, NoRoom}
-use Rattle.address.specs.Address.{spanNo}
-use Rattle.address.specs.InsideLaws.{Holds}
 use Rattle.placement.specs.Lowest.{lowestPlace}
-use Rattle.placement.specs.Placing.{Suits}
+use Rattle.placement.specs.InOrder.{ItemSuits}
 use Rattle.placement.specs.Order.{itemNo, spanOf, withSpan, placedFrom}
 
 module _ (t : Spans) (s : Span) where
@@ -42,7 +41,7 @@ module _ (t : Spans) (s : Span) where
 
 module _ (o : ℕ → Bool) (q : Item) (a : ℕ) where
   -- beside fewer spans, all of which are there already, an address suits still
-  pub suits-fewer : (t u : Spans) → u .count ≤ t .count → ((i : ℕ) → i < u .count → spanNo (t .list) i ≡ spanNo (u .list) i) → Suits o t q a → Suits o u q a
+  pub suits-fewer : (t u : Spans) → u .count ≤ t .count → ((i : ℕ) → i < u .count → spanNo (t .list) i ≡ spanNo (u .list) i) → ItemSuits o t q a → ItemSuits o u q a
   suits-fewer t u l e h =
       record {
         low = h .low;
@@ -52,7 +51,7 @@ module _ (o : ℕ → Bool) (q : Item) (a : ℕ) where
       }
 
   -- beside one span more an address suits exactly where it did before and the item shares no address with the span
-  pub suits-with : (t : Spans) (s : Span) → t .count < length (t .list) → Suits o (withSpan t s) q a ↔ (Suits o t q a × ((y : ℕ) → a ≤ y → y < a + q .length → Holds s y → ⊥))
+  pub suits-with : (t : Spans) (s : Span) → t .count < length (t .list) → ItemSuits o (withSpan t s) q a ↔ (ItemSuits o t q a × ((y : ℕ) → a ≤ y → y < a + q .length → Holds s y → ⊥))
   suits-with t s room = (
     λ h. (
       suits-fewer (withSpan t s) t (omega (arith, with-count t s)) (λ i l. with-keeps t s i l) h,

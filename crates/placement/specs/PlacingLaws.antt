@@ -1,6 +1,6 @@
 -- The placing promise holds.
---     in-order      placing the items in order leaves what InOrder says, over any test of open addresses that ends at 2^32
---     placed-open   over the memory of a board each item lies in usable memory inside the window
+--     in-order       placing the items in order leaves what InOrder says, over any test of open addresses that ends at 2^32
+--     placed-open    over the memory of a board each item lies in usable memory inside the window
 -- Assumes nothing.
 use mathlib.Core.Path.{_≡_, refl, sym, _∙_, subst₂}
 use mathlib.Core.Bool.{Bool, true}
@@ -11,18 +11,17 @@ use native.Mathlib.Omega.{arith}
 use lib.ListN.{length}
 use Rattle.address.specs.declared.PhysAddr.{PhysAddr}
 use Rattle.address.specs.declared.Span.{Span}
+use Rattle.address.specs.Span.{spanNo, Holds}
 use Rattle.usable.specs.Usable.{addressSpace}
 use Rattle.board.specs.declared.Board.{Board}
 use Rattle.board.specs.Open.{isOpen}
-use Rattle.board.specs.OpenLaws.{Open, open-is, open-below}
+use Rattle.board.specs.OpenLaws.{OpenOn, open-is, open-below}
 use Rattle.placement.specs.declared.Spans.{Spans}
 use Rattle.placement.specs.declared.Items.{Items}
 use Rattle.placement.specs.declared.Place.{Place}
 use Rattle.placement.specs.declared.Place.the-variants.{At, NoRoom}
 use Rattle.placement.specs.declared.Placed.{Placed}
-use Rattle.address.specs.Address.{spanNo}
-use Rattle.placement.specs.Placing.{Suits, Stands, InOrder, upTo}
-use Rattle.address.specs.InsideLaws.{Holds}
+use Rattle.placement.specs.InOrder.{ItemSuits, ItemStands, InOrder, upTo}
 use Rattle.placement.specs.Lowest.{lowestPlace}
 use Rattle.placement.specs.LowestLaws.{place-lowest, no-room}
 use Rattle.placement.specs.Order.{itemNo, spanOf, withSpan, placedFrom, placeItems}
@@ -38,8 +37,8 @@ record From (o : ℕ → Bool) (q : Items) (k i : ℕ) (t : Spans) (r : Placed) 
   most : r .done ≤ i + k
   count : r .spans .count + i ≡ t .count + r .done
   kept : (j : ℕ) → j < t .count → spanNo (r .spans .list) j ≡ spanNo (t .list) j
-  stands : (j : ℕ) → i + j < r .done → Stands o (r .spans) (t .count + j) (itemNo q (i + j))
-  stopped : r .done < i + k → (s : ℕ) → Suits o (r .spans) (itemNo q (r .done)) s → ⊥
+  stands : (j : ℕ) → i + j < r .done → ItemStands o (r .spans) (t .count + j) (itemNo q (i + j))
+  stopped : r .done < i + k → (s : ℕ) → ItemSuits o (r .spans) (itemNo q (r .done)) s → ⊥
 
 module _ (o : ℕ → Bool) (small : (a : ℕ) → o a ≡ true → a < addressSpace) (q : Items) (some : (i : ℕ) → i < q .count → 0 < itemNo q i .length) where
   step-end : (i : ℕ) (t : Spans) → placedFrom o q zero i t ≡ record { spans = t; done = i }
@@ -62,7 +61,7 @@ module _ (o : ℕ → Bool) (small : (a : ℕ) → o a ≡ true → a < addressS
     here : spanNo (r .spans .list) (t .count) ≡ spanOf a (itemNo q i .length)
     here = h .kept (t .count) (omega (arith, with-count t (spanOf a (itemNo q i .length)))) ∙ with-new t (spanOf a (itemNo q i .length)) room
 
-    stood : Stands o (r .spans) (t .count) (itemNo q i)
+    stood : ItemStands o (r .spans) (t .count) (itemNo q i)
     stood =
         let p = place-lowest o t (itemNo q i) small (some i n) a .0 e in
         record {
@@ -71,11 +70,11 @@ module _ (o : ℕ → Bool) (small : (a : ℕ) → o a ≡ true → a < addressS
           length = rw here refl;
         }
 
-    stands-on : (j : ℕ) → i + j < r .done → Stands o (r .spans) (t .count + j) (itemNo q (i + j))
+    stands-on : (j : ℕ) → i + j < r .done → ItemStands o (r .spans) (t .count + j) (itemNo q (i + j))
     stands-on zero l = rw (add-zero, add-zero) stood
     stands-on (suc j) l =
         let c = with-count t (spanOf a (itemNo q i .length)) in
-        subst₂ (λ (x y : ℕ). Stands o (r .spans) x (itemNo q y)) (omega arith) (omega arith) (h .stands j (omega arith))
+        subst₂ (λ (x y : ℕ). ItemStands o (r .spans) x (itemNo q y)) (omega arith) (omega arith) (h .stands j (omega arith))
 
     from-step : From o q (suc k) i t r
     from-step =
@@ -118,18 +117,18 @@ module _ (o : ℕ → Bool) (small : (a : ℕ) → o a ≡ true → a < addressS
     unfolding placeItems
     all = from (q .count) 0 t room (omega arith)
 
-    stands-item : (i : ℕ) → i < placeItems o t q .done → Stands o (placeItems o t q .spans) (t .count + i) (itemNo q i)
+    stands-item : (i : ℕ) → i < placeItems o t q .done → ItemStands o (placeItems o t q .spans) (t .count + i) (itemNo q i)
     stands-item i l =
         let e : 0 + i ≡ i = omega arith in
         rw e at (all .stands i (omega arith))
 
     -- the span of the index j, past those taken, holds the item that many places on
-    stands-at : (j : ℕ) → t .count ≤ j → j < placeItems o t q .spans .count → Stands o (placeItems o t q .spans) j (itemNo q (j - t .count))
+    stands-at : (j : ℕ) → t .count ≤ j → j < placeItems o t q .spans .count → ItemStands o (placeItems o t q .spans) j (itemNo q (j - t .count))
     stands-at j l m =
         let e : t .count + (j - t .count) ≡ j = omega arith in
         rw e at (stands-item (j - t .count) (omega (arith, all .count)))
 
-    ends-at : (i : ℕ) → i < q .count → i ≤ placeItems o t q .done → (placeItems o t q .done ≡ i) ↔ ((s : ℕ) → Suits o (upTo (placeItems o t q .spans) (t .count + i)) (itemNo q i) s → ⊥)
+    ends-at : (i : ℕ) → i < q .count → i ≤ placeItems o t q .done → (placeItems o t q .done ≡ i) ↔ ((s : ℕ) → ItemSuits o (upTo (placeItems o t q .spans) (t .count + i)) (itemNo q i) s → ⊥)
     ends-at i l m =
         let r : Placed = placeItems o t q in (
           λ e s h. all .stopped (omega arith) s (rw e (suits-fewer o (itemNo q i) s (upTo (r .spans) (t .count + i)) (r .spans) (omega (arith, all .count)) (λ j k. refl) h)),
@@ -152,5 +151,5 @@ module _ (b : Board) (q : Items) (some : (i : ℕ) → i < q .count → 0 < item
   pub board-in-order : InOrder (isOpen b) t q (placeItems (isOpen b) t q)
   board-in-order = in-order (isOpen b) (open-below b) q some t room
 
-  pub placed-open : (j : ℕ) → t .count ≤ j → j < placeItems (isOpen b) t q .spans .count → (a : ℕ) → Holds (spanNo (placeItems (isOpen b) t q .spans .list) j) a → Open b a
+  pub placed-open : (j : ℕ) → t .count ≤ j → j < placeItems (isOpen b) t q .spans .count → (a : ℕ) → Holds (spanNo (placeItems (isOpen b) t q .spans .list) j) a → OpenOn b a
   placed-open j l m a h = open-is b a .0 (board-in-order .opened j l m a h)

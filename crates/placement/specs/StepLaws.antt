@@ -1,7 +1,7 @@
 -- The steps of the walk over the memory of a board.
 --     step-start, step-on, step-past    it begins; goes on over free memory; goes past memory that is not free
 --     step-found, step-end              the place is found; there is no room
---     round-small          what is rounded up stays below 2^32
+--     round-small                       what is rounded up stays below 2^32
 -- Assumes nothing.
 use mathlib.Core.Path.{_≡_, sym, ap}
 use mathlib.Core.Bool.{true, false}

@@ -1,8 +1,8 @@
 -- One turn of each loop over digits.
---     spelled-none, -more, -all        no digit yet, a digit in front of those spelled, all of them
---     lead-more, lead-stop, lead-last  a zero in front passed, another digit met, the last digit
---     decimal-written, field-written   a number as text, written
---     refusal-written, load-written    the line of a refusal part by part, and the lines of a load
+--     spelled-none, -more, -all          no digit yet, a digit in front of those spelled, all of them
+--     lead-more, lead-stop, lead-last    a zero in front passed, another digit met, the last digit
+--     decimal-written, field-written     a number as text, written
+--     refusal-written, load-written      the line of a refusal part by part, and the lines of a load
 -- Assumes nothing.
 use mathlib.Core.Path.{_≡_, refl, ap, sym, _∙_}
 use mathlib.Core.List.{List, [], _∷_, _++_, append-assoc, append-nil}
@@ -11,9 +11,9 @@ use native.Mathlib.Omega.{arith}
 use borrow.Author.Tests.{eq-eqb, ne-eqb}
 use lib.ListN.{length, take, drop, getD, set, length-set, length-take, length-drop, drop-of-length-le}
 use lib.Seq.{drop-cons, getD-set-same, drop-set-lt, take-set-lt, take-all, length-take-le}
-use Rattle.viertompu.specs.Joined.{joined}
 use Rattle.submission.specs.Format.{maxModules}
-use Rattle.image.specs.Judged.{maxSegments}
+use Rattle.image.specs.Kernel.{maxSegments}
+use Rattle.viertompu.specs.Joined.{joined}
 use Rattle.report.specs.Text.{Wrote, blank, newline, hexLength, decimalLength, glyphOf, digitsOf, leadingZeros, decimalText, fieldText}
 use Rattle.report.specs.TextLaws.{wrote-behind}
 use Rattle.report.specs.Report.{refusedLabel, numberWord, segmentLine, moduleLine, infoLine, refusalText, reportOf}

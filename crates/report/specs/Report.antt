@@ -1,10 +1,10 @@
 -- The report on a plan.                                                                               rule: REVIEW
 --     kernelLabel, moduleLabel, infoLabel, refusedLabel    what the lines begin with
---     numberWord, itemWord, entryWord, blockWords               what a plan's words say
---     lineText                                         a word, and addresses
---     segmentLine, moduleLine, infoLine, refusalText   each line
---     reportOf                                         the whole text
---     maxLineText, maxReport                           no line and no report is longer
+--     numberWord, itemWord, entryWord, blockWords          what a plan's words say
+--     lineText                                             a word, and addresses
+--     segmentLine, moduleLine, infoLine, refusalText       each line
+--     reportOf                                             the whole text
+--     maxLineText, maxReport                               no line and no report is longer
 -- Assumes nothing.
 use mathlib.Core.Bool.{cond}
 use mathlib.Core.List.{List, [], _∷_, _++_}
@@ -12,7 +12,7 @@ use Prim.Native.Nat.{ℕ, _+_, _*_}
 use lib.Dec.{eqb}
 use lib.ListN.{getD}
 use Rattle.submission.specs.Format.{maxModules}
-use Rattle.image.specs.Judged.{maxSegments}
+use Rattle.image.specs.Kernel.{maxSegments}
 use Rattle.viertompu.specs.Joined.{joined}
 use Rattle.viertompu.specs.Words.{firstSegment, wordsPerSegment, firstModule, wordsPerModule}
 use Rattle.report.specs.Text.{blank, newline, decimalText, fieldsText}

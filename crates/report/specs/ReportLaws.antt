@@ -1,10 +1,10 @@
 -- Laws of the report.
---     length-line                             a word, nine bytes for each address, and the end of the line
---     segment-none, segment-line              the line of a place without a segment, and with one
---     module-none, module-line                the same of modules
+--     length-line                                   a word, nine bytes for each address, and the end of the line
+--     segment-none, segment-line                    the line of a place without a segment, and with one
+--     module-none, module-line                      the same of modules
 --     segment-short, module-short, refusal-short    no such line is longer than the limit
---     report-of-load, report-of-refusal       which report is given
---     report-short                            no report is longer than its limit
+--     report-of-load, report-of-refusal             which report is given
+--     report-short                                  no report is longer than its limit
 -- Assumes nothing.
 use mathlib.Core.Path.{_≡_, refl, ap, _∙_}
 use mathlib.Core.Bool.{Bool, true, false, cond}
@@ -16,7 +16,7 @@ use borrow.Author.Tests.{eq-eqb, ne-eqb}
 use lib.Dec.{eqb}
 use lib.ListN.{length, getD, length-append}
 use Rattle.submission.specs.Format.{maxModules}
-use Rattle.image.specs.Judged.{maxSegments}
+use Rattle.image.specs.Kernel.{maxSegments}
 use Rattle.viertompu.specs.Joined.{joined}
 use Rattle.viertompu.specs.JoinedLaws.{joined-short}
 use Rattle.viertompu.specs.Words.{firstSegment, wordsPerSegment, firstModule, wordsPerModule}

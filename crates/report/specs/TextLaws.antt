@@ -1,9 +1,9 @@
 -- Laws of numbers as text.
---     length-digits                           so many digits as asked for
---     decimal-short                           no number has more than ten decimal digits
---     length-field, length-fields             nine bytes for each field, and one for the end of the line
---     wrote-nothing                           no text
---     wrote-behind, wrote-row                 two texts one behind the other, and a row more
+--     length-digits                  so many digits as asked for
+--     decimal-short                  no number has more than ten decimal digits
+--     length-field, length-fields    nine bytes for each field, and one for the end of the line
+--     wrote-nothing                  no text
+--     wrote-behind, wrote-row        two texts one behind the other, and a row more
 -- Assumes nothing.
 use mathlib.Core.Path.{_≡_, refl, ap, sym, _∙_}
 use mathlib.Core.List.{List, [], _∷_, _++_}

@@ -15,7 +15,7 @@ use viertompu::WORDS_PER_SEGMENT;
 ghost use Prim.Native.Nat.{_+_, _*_, _≤_, _<_, _^_};
 ghost use lib.ListN.{length};
 ghost use Rattle.submission.specs.Format.{maxModules};
-ghost use Rattle.image.specs.Judged.{maxSegments};
+ghost use Rattle.image.specs.Kernel.{maxSegments};
 ghost use Rattle.viertompu.specs.Joined.{joined};
 ghost use Rattle.report.specs.Text.{Wrote};
 ghost use Rattle.report.specs.Report.{maxLineText, maxReport, lineText, refusalText, segmentLine, moduleLine, reportOf};
@@ -117,7 +117,7 @@ fn write_line(text: &mut [u8], at: usize, label: &[u8], fields: &[u32]) -> usize
 }
 
 // Writes the bytes of a text.
-pub(crate) fn write_text(text: &mut [u8], at: usize, s: &[u8]) -> usize
+pub fn write_text(text: &mut [u8], at: usize, s: &[u8]) -> usize
     requires { ⌜ at + length (now s) < 2 ^ 64 ⌝ }
     ensures { λ r. ⌜ Wrote (now (text .entry)) at (now (s .entry)) (now (text .exit)) r ⌝ }
 {

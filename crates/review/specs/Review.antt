@@ -1,10 +1,10 @@
 -- What the program prints for what it reads.                                                           rule: REVIEW
---     pairBytes, boardMap              the board's memory map
---     firstAddress, windowLength       the window
---     lentWith                         what is lent with a submission
---     reviewOf                         the report on it
---     maxInput, overMessage            the longest input that is reviewed, and what is printed for a longer one
---     printedFor                       the message or the report
+--     pairBytes, boardMap           the board's memory map
+--     firstAddress, windowLength    the window
+--     lentWith                      what is lent with a submission
+--     reviewOf                      the report on it
+--     maxInput, overMessage         the longest input that is reviewed, and what is printed for a longer one
+--     printedFor                    the message or the report
 -- Assumes nothing.
 use mathlib.Core.Bool.{cond}
 use mathlib.Core.List.{List, [], _∷_, _++_}

@@ -1,22 +1,24 @@
 -- What decides on a submission, test by test.
---     count-is, line-is                                     fields of the layout that was read
---     too-many, .. zero-in-line, else-strings               whether the rules hold
---     not-parsed, bad-parsed, good-parsed       what the parse gives
+--     count-is, line-is                          fields of the layout that was read
+--     too-many, .. zero-in-line, else-strings    whether the rules hold
+--     not-parsed, bad-parsed, good-parsed        what the parse gives
 -- Assumes nothing.
 use mathlib.Core.Path.{_≡_, refl, ap, _∙_}
 use mathlib.Core.Bool.{true, false}
 use mathlib.Core.List.{List}
 use Prim.Native.Nat.{ℕ, _≤_, _<_}
-use lib.ListN.{length}
 use borrow.Author.Tests.{le-leb, eq-eqb}
-use Rattle.answer.specs.declared.Answer.the-variants.{Load, NotASubmission, BadSubmission}
+use lib.ListN.{length}
 use Rattle.laws.specs.Tests.{allFrom}
 use Rattle.laws.specs.Checks.{firstOf, passes}
 use Rattle.laws.specs.CheckLaws.{chain}
+use Rattle.answer.specs.declared.Answer.the-variants.{Load, NotASubmission, BadSubmission}
 use Rattle.submission.specs.Scan.{hasZero}
-use Rattle.submission.specs.Format.{moduleCount, lineLength, partsEnd, linePart, maxModules, layoutOf, noLayout, bytesOf}
+use Rattle.submission.specs.Format.{moduleCount, lineLength, partsEnd, maxModules}
+use Rattle.submission.specs.Layout.{linePart, layoutOf, bytesOf}
+use Rattle.submission.specs.Parse.{noLayout, parsedSubmission}
 use Rattle.submission.specs.FormatLaws.{layout-line, layout-count}
-use Rattle.submission.specs.Rules.{maxLine, isSubmission, entryHolds, stringHolds, rulesHold, submissionChecks, parsedSubmission}
+use Rattle.submission.specs.Rules.{maxLine, isSubmission, entryHolds, stringHolds, rulesHold, submissionChecks}
 use Rattle.submission.specs.declared.Layout.{Layout}
 
 -- the layout that was read

@@ -1,16 +1,16 @@
 -- One turn of each scan, and where it ends.
---     zero-here, zero-on, zero-none         a zero byte at i, none at i, no byte left
---     differ-here, same-on, same-none       two bytes at i that differ, that are the same, no byte left
---     other-length                          rows of different lengths are not the same
+--     zero-here, zero-on, zero-none      a zero byte at i, none at i, no byte left
+--     differ-here, same-on, same-none    two bytes at i that differ, that are the same, no byte left
+--     other-length                       rows of different lengths are not the same
 -- Assumes nothing.
 use mathlib.Core.Path.{_≡_, refl, ap}
 use mathlib.Core.Bool.{true, false, and-false}
 use mathlib.Core.List.{List, [], _∷_}
 use Prim.Native.Nat.{ℕ, suc, _+_, _≤_, _<_}
 use native.Mathlib.Numerals.{add-one}
+use borrow.Author.Tests.{eq-eqb, ne-eqb}
 use lib.ListN.{length, drop, getD, drop-of-length-le}
 use lib.Seq.{drop-cons}
-use borrow.Author.Tests.{eq-eqb, ne-eqb}
 use Rattle.submission.specs.Scan.{hasZero, sameBytes}
 
 module _ (s : List ℕ) (i : ℕ) (h : i < length s) where

@@ -1,6 +1,6 @@
 -- One turn of the loops over the modules.
---     hold-more                    one module more that passes a test
---     modules-more, next-data      one module more in the table, and where the next one's data begins
+--     hold-more                  one module more that passes a test
+--     modules-more, next-data    one module more in the table, and where the next one's data begins
 -- Assumes nothing.
 use mathlib.Core.Path.{_≡_, ap, sym, _∙_}
 use mathlib.Core.Bool.{Bool, true}
@@ -11,7 +11,8 @@ use lib.ListN.{set}
 use Rattle.laws.specs.Tests.{allFrom}
 use Rattle.laws.specs.TestLaws.{all-more}
 use Rattle.laws.specs.TableLaws.{table-more}
-use Rattle.submission.specs.Format.{tableEntry, dataStart, moduleFrom, moduleOf, maxModules, noModule, moduleTable}
+use Rattle.submission.specs.Format.{dataStart, maxModules}
+use Rattle.submission.specs.Layout.{tableEntry, moduleFrom, moduleOf, noModule, moduleTable}
 use Rattle.submission.specs.FormatLaws.{data-behind-string}
 use Rattle.submission.specs.declared.read.TableEntry.{TableEntry}
 use Rattle.submission.specs.declared.Module.{Module}

@@ -1,9 +1,9 @@
 -- Where the parts of a submission lie, whatever its bytes are.
---     line-behind-image, data-behind-line, string-behind-data, data-behind-string      one behind the other
---     data-order                                                                       a later module lies further on
---     length-bytesOf, bytesOf-at                                                       a part that lies inside is whole; its bytes
---     layout-line, layout-count                                                        the fields of the layout
---     length-modules, module-at, module-past                                           its table of modules
+--     line-behind-image, data-behind-line, string-behind-data, data-behind-string    one behind the other
+--     data-order                                a later module lies further on
+--     length-bytesOf, bytesOf-at                a part that lies inside is whole; its bytes
+--     layout-line, layout-count                 the fields of the layout
+--     length-modules, module-at, module-past    its table of modules
 -- Assumes nothing.
 use mathlib.Core.Path.{_≡_, refl, ap}
 use mathlib.Core.Logic.{⊎-elim}
@@ -15,7 +15,8 @@ use native.Mathlib.Omega.{arith}
 use lib.ListN.{length, getD, length-take, length-drop}
 use lib.Seq.{getD-take, getD-drop}
 use Rattle.laws.specs.TableLaws.{length-table, table-at, table-past}
-use Rattle.submission.specs.Format.{moduleCount, imageLength, lineLength, dataLength, stringLength, imageStart, lineStart, dataStart, stringStart, linePart, moduleOf, maxModules, noModule, layoutOf, moduleNo, bytesOf}
+use Rattle.submission.specs.Format.{moduleCount, imageLength, lineLength, dataLength, stringLength, imageStart, lineStart, dataStart, stringStart, maxModules}
+use Rattle.submission.specs.Layout.{linePart, moduleOf, noModule, layoutOf, moduleNo, bytesOf}
 use Rattle.submission.specs.declared.Part.{Part}
 
 module _ (s : List ℕ) where

@@ -1,51 +1,40 @@
--- What an good-submission submission keeps.
---     submission-refuses                                         the checks on it refuse
---     GoodSubmission, good-submission, submission-good                           every rule of a submission, as facts: it is good-submission exactly where they hold
---     image-inside, line-inside, data-inside, string-inside      its parts lie inside it
---     line-no-zero, string-no-zero                               no zero byte in its command line and strings
---     image-bound, data-bound                                    lengths of 32 bits
---     parsed-layout, parsed-none, parsed-modules                   what a parse gives
+-- What an accepted submission keeps.
+--     submission-refuses                                       the checks on it refuse
+--     GoodSubmission, good-submission, submission-good         every rule of a submission, as facts: it is good-submission exactly where they hold
+--     image-inside, line-inside, data-inside, string-inside    its parts lie inside it
+--     line-no-zero, string-no-zero                             no zero byte in its command line and strings
+--     image-bound, data-bound                                  lengths of 32 bits
+--     parsed-layout, parsed-none, parsed-modules               what a parse gives
 -- Assumes nothing.
 use mathlib.Core.Path.{_≡_, refl, _∙_}
 use mathlib.Core.Bool.{Bool, true, false, not, _&&_, false≢true}
-use mathlib.Core.Logic.{⊎-elim}
+use mathlib.Core.Logic.{⊎-elim, _↔_}
 use mathlib.Core.List.{List}
 use Prim.Native.Nat.{ℕ, _+_, _^_, _≤_, _<_}
 use native.Mathlib.Omega.{arith}
+use borrow.Author.Tests.{leb-true, le-leb, eqb-true, eq-eqb, not-true, not-false}
 use lib.Dec.{leb, eqb}
 use lib.ListN.{length, take, drop, getD}
-use borrow.Author.Tests.{leb-true, le-leb, eqb-true, eq-eqb, not-true, not-false}
-use Rattle.answer.specs.ChainLaws.{refuses}
 use Rattle.laws.specs.Tests.{allFrom}
 use Rattle.laws.specs.TestLaws.{true-or-false, and-left, and-right, all-intro, all-elim}
 use Rattle.laws.specs.Checks.{passes}
 use Rattle.number.specs.NumberLaws.{Bytes, bytes-drop, number-bound}
+use Rattle.answer.specs.ChainLaws.{refuses}
 use Rattle.submission.specs.Scan.{hasZero, sameBytes}
-use Rattle.submission.specs.ScanLaws.{no-zero, same-is}
-use Rattle.submission.specs.Format.{mark, version, moduleCount, imageLength, lineLength, prefixSize, entryOffset, dataLength, stringLength, reserved, imageStart, lineStart, dataStart, stringStart, partsEnd, linePart, moduleOf, maxModules, layoutOf, noLayout, bytesOf}
+use Rattle.submission.specs.ScanLaws.{no-zero, same-is, zero-free}
+use Rattle.submission.specs.Format.{mark, version, moduleCount, imageLength, lineLength, prefixSize, entryOffset, dataLength, stringLength, reserved, imageStart, lineStart, dataStart, stringStart, partsEnd, lineBytes, stringBytes, maxModules}
+use Rattle.submission.specs.Layout.{linePart, moduleOf, layoutOf, bytesOf}
+use Rattle.submission.specs.Parse.{noLayout, parsedSubmission}
 use Rattle.submission.specs.FormatLaws.{data-behind-line, data-behind-string, data-order, length-bytesOf, bytesOf-at, layout-count}
-use Rattle.submission.specs.Rules.{maxLine, maxString, isSubmission, inLimits, entryHolds, stringHolds, rulesHold, submissionChecks, parsedSubmission}
+use Rattle.submission.specs.Rules.{maxLine, maxString, isSubmission, inLimits, entryHolds, stringHolds, rulesHold, submissionChecks}
 use Rattle.submission.specs.declared.Part.{Part}
-
--- the rules of a submission, as facts
-pub record GoodSubmission (s : List ℕ) : Type 0 where
-  pub header : prefixSize ≤ length s
-  pub marked : take 3 s ≡ mark
-  pub versioned : version s ≡ 1
-  pub count : moduleCount s ≤ maxModules
-  pub line : lineLength s ≤ maxLine
-  pub bytes : (i : ℕ) → i < moduleCount s → 1 ≤ dataLength s i
-  pub string : (i : ℕ) → i < moduleCount s → stringLength s i ≤ maxString
-  pub zeros : (i : ℕ) → i < moduleCount s → reserved s i ≡ 0
-  pub end : partsEnd s ≡ length s
-  pub line-text : hasZero (bytesOf s (linePart s)) ≡ false
-  pub string-text : (i : ℕ) → i < moduleCount s → hasZero (bytesOf s (moduleOf s i .string)) ≡ false
+use Rattle.submission.specs.GoodSubmission.{GoodSubmission, NoZero, Marked}
 
 -- no zero byte in a part
-part-no-zero : (s : List ℕ) (p : Part) → p .at + p .len ≤ length s → hasZero (bytesOf s p) ≡ false → (i : ℕ) → i < p .len → getD s (p .at + i) 0 ≡ 0 → ⊥
+part-no-zero : (s : List ℕ) (p : Part) → p .at + p .len ≤ length s → NoZero (bytesOf s p) → (i : ℕ) → i < p .len → getD s (p .at + i) 0 ≡ 0 → ⊥
 part-no-zero s p h z i l e =
     let k : i < length (bytesOf s p) = rw (length-bytesOf s p h) l in
-    no-zero (bytesOf s p) z i k (bytesOf-at s p i l ∙ e)
+    z i k (bytesOf-at s p i l ∙ e)
 
 six : (a b c d e f : Bool) → a && b && c && d && e && f ≡ true → (a ≡ true) × (b ≡ true) × (c ≡ true) × (d ≡ true) × (e ≡ true) × (f ≡ true)
 six true true true true true true h = (refl, refl, refl, refl, refl, refl)
@@ -111,41 +100,50 @@ module _ (s : List ℕ) where
   unfolding stringHolds
   string-facts h i l = not-true _ (all-elim (stringHolds s) 0 (moduleCount s) h i (omega arith) (omega arith))
 
-  pub good-submission : passes (submissionChecks s) ≡ true → GoodSubmission s
-  good-submission h =
-      let f = header-facts (is-submission h) in
-      let r = rules-apart (holds-rules h) in
+  -- the rules behind 1
+  pub marked-is : (isSubmission s ≡ true) ↔ Marked s
+  unfolding isSubmission
+  marked-is = (
+    λ h. let f = header-facts h in record { long = f .0; mark = f .1; version = f .2 },
+    λ m. rw (le-leb prefixSize (length s) (m .long), same-is (take 3 s) mark .1 (m .mark), eq-eqb (version s) 1 (m .version)) refl,
+  )
+
+  -- and those behind 2
+  rules-good : rulesHold s ≡ true → GoodSubmission s
+  rules-good h =
+      let r = rules-apart h in
       record {
-        header = f .0;
-        marked = f .1;
-        versioned = f .2;
         count = leb-true _ _ (r .0);
         line = leb-true _ _ (r .1);
         bytes = λ i l. entry-facts (r .2) i l .0;
         string = λ i l. entry-facts (r .2) i l .1;
         zeros = λ i l. entry-facts (r .2) i l .2;
         end = eqb-true _ _ (r .3);
-        line-text = not-true _ (r .4);
-        string-text = string-facts (r .5);
+        line-text = no-zero (lineBytes s) (not-true _ (r .4));
+        string-text = λ i l. no-zero (stringBytes s i) (string-facts (r .5) i l);
       }
 
-  pub submission-good : GoodSubmission s → passes (submissionChecks s) ≡ true
-  unfolding passes submissionChecks isSubmission rulesHold inLimits stringHolds
-  submission-good a =
+  good-rules : GoodSubmission s → rulesHold s ≡ true
+  unfolding rulesHold inLimits stringHolds
+  good-rules a =
       let entry : (i : ℕ) → i < moduleCount s → entryHolds s i ≡ true = λ i m. rw (le-leb 1 (dataLength s i) (a .bytes i m), le-leb (stringLength s i) maxString (a .string i m), eq-eqb (reserved s i) 0 (a .zeros i m)) refl in
-      let text : (i : ℕ) → i < moduleCount s → stringHolds s i ≡ true = λ i m. rw (a .string-text i m) refl in
+      let text : (i : ℕ) → i < moduleCount s → stringHolds s i ≡ true = λ i m. rw (zero-free (stringBytes s i) (a .string-text i m)) refl in
       rw (
-        le-leb prefixSize (length s) (a .header),
-        same-is (take 3 s) mark .1 (a .marked),
-        eq-eqb (version s) 1 (a .versioned),
         le-leb (moduleCount s) maxModules (a .count),
         le-leb (lineLength s) maxLine (a .line),
         all-intro (entryHolds s) 0 (moduleCount s) (λ i l m. entry i (omega arith)),
         eq-eqb (partsEnd s) (length s) (a .end),
-        a .line-text,
+        zero-free (lineBytes s) (a .line-text),
         all-intro (stringHolds s) 0 (moduleCount s) (λ i l m. text i (omega arith)),
       )
       refl
+
+  pub good-is : (rulesHold s ≡ true) ↔ GoodSubmission s
+  good-is = (rules-good, good-rules)
+
+  -- an accepted submission keeps them
+  pub good-submission : passes (submissionChecks s) ≡ true → GoodSubmission s
+  good-submission h = rules-good (holds-rules h)
 
 -- the layout that a parse gives has room for its modules, refused or not
 pub parsed-modules : (s : List ℕ) → parsedSubmission s .layout .count ≤ maxModules

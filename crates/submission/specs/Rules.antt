@@ -1,21 +1,20 @@
 -- Which submissions are refused.                               rules: SUBMISSION, ANSWERS (1 and 2)
---     isSubmission, rulesHold     the rules behind 1, and those behind 2
---     submissionChecks            1 and 2
---     parsedSubmission                      the answer for a submission, and its layout where no check applies
+--     isSubmission, rulesHold    the rules behind 1, and those behind 2
+--     submissionChecks           1 and 2
 -- Assumes nothing.
-use mathlib.Core.Bool.{Bool, cond, not, _&&_}
+use mathlib.Core.Bool.{Bool, not, _&&_}
 use mathlib.Core.List.{List, [], _∷_}
 use Prim.Native.Nat.{ℕ}
 use lib.Dec.{leb, eqb}
 use lib.ListN.{length, take}
-use Rattle.answer.specs.declared.Answer.{Answer}
-use Rattle.answer.specs.declared.Answer.the-variants.{Load, NotASubmission, BadSubmission}
 use Rattle.laws.specs.Tests.{allFrom}
-use Rattle.laws.specs.Checks.{Check, firstOf, passes, _gives_}
+use Rattle.laws.specs.Checks.{Check, _gives_}
+use Rattle.answer.specs.declared.Answer.{Answer}
+use Rattle.answer.specs.declared.Answer.the-variants.{NotASubmission, BadSubmission}
 use Rattle.submission.specs.Scan.{hasZero, sameBytes}
-use Rattle.submission.specs.Format.{mark, version, moduleCount, lineLength, prefixSize, tableEntry, partsEnd, linePart, moduleOf, maxModules, layoutOf, noLayout, bytesOf}
+use Rattle.submission.specs.Format.{mark, version, moduleCount, lineLength, prefixSize, partsEnd, maxModules}
+use Rattle.submission.specs.Layout.{tableEntry, linePart, moduleOf, bytesOf}
 use Rattle.submission.specs.declared.read.TableEntry.{TableEntry}
-use Rattle.submission.specs.declared.ParsedSubmission.{ParsedSubmission}
 
 -- at most so many bytes in a command line, and in a module's string
 abbrev pub maxLine : ℕ
@@ -52,7 +51,3 @@ rulesHold s =
 -- 1, then 2
 unfoldable pub submissionChecks : List ℕ → List (Check Answer)
 submissionChecks s = not (isSubmission s) gives NotASubmission ∷ not (rulesHold s) gives BadSubmission ∷ []
-
--- the answer, and the layout where it is 0
-unfoldable pub parsedSubmission : List ℕ → ParsedSubmission
-parsedSubmission s = record { answer = firstOf (submissionChecks s) Load; layout = cond (passes (submissionChecks s)) (layoutOf s) noLayout }

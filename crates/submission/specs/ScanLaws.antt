@@ -1,6 +1,6 @@
 -- What the scans say, byte by byte.
---     no-zero, zero-free      no byte is zero, as a test and for each index
---     same-is                 two rows are the same, as a test and as lists
+--     no-zero, zero-free    no byte is zero, as a test and for each index
+--     same-is               two rows are the same, as a test and as lists
 -- Assumes nothing.
 use mathlib.Core.Path.{_≡_, refl}
 use mathlib.Core.Bool.{true, false, false≢true}
@@ -8,9 +8,9 @@ use mathlib.Core.List.{List, [], _∷_}
 use mathlib.Core.Logic.{_↔_}
 use Prim.Native.Nat.{ℕ, zero, suc, _<_}
 use native.Mathlib.Omega.{arith}
+use borrow.Author.Tests.{eqb-true, eqb-false, eq-eqb, ne-eqb}
 use lib.Dec.{eqb}
 use lib.ListN.{length, getD}
-use borrow.Author.Tests.{eqb-true, eqb-false, eq-eqb, ne-eqb}
 use Rattle.laws.specs.TestLaws.{or-none-left, or-none-right, and-left, and-right}
 use Rattle.submission.specs.Scan.{hasZero, sameBytes}
 

@@ -1,7 +1,8 @@
 // A submission in the KSB format: where its parts lie, and whether it keeps the format's rules.
 ghost use mathlib.Core.Path.{_≡_};
-ghost use Rattle.submission.specs.Format.{noLayout, bytesOf};
-ghost use Rattle.submission.specs.Rules.{parsedSubmission};
+ghost use Rattle.submission.specs.Layout.{bytesOf};
+ghost use Rattle.submission.specs.Parse.{noLayout};
+ghost use Rattle.submission.specs.Parse.{parsedSubmission};
 use answer::Answer;
 
 mod read;

@@ -1,7 +1,10 @@
 // Where the parts of a submission lie.
 ghost use mathlib.Core.Path.{_≡_};
 ghost use Prim.Native.Nat.{_+_, _^_, _≤_, _<_};
-ghost use Rattle.submission.specs.Format.{moduleCount, entryOffset, tableEntry, partsEnd, moduleFrom, maxModules, layoutOf, noLayout};
+ghost use Rattle.submission.specs.Format.{moduleCount, entryOffset, partsEnd};
+ghost use Rattle.submission.specs.Layout.{tableEntry, moduleFrom, layoutOf};
+ghost use Rattle.submission.specs.Parse.{noLayout};
+ghost use Rattle.submission.specs.Format.{maxModules};
 use crate::Layout;
 use crate::MAX_MODULES;
 use crate::Module;

@@ -2,7 +2,9 @@
 ghost use mathlib.Core.Path.{_≡_};
 ghost use Prim.Native.Nat.{_≤_};
 ghost use Rattle.laws.specs.Tests.{allFrom};
-ghost use Rattle.submission.specs.Format.{moduleCount, partsEnd, maxModules, layoutOf};
+ghost use Rattle.submission.specs.Format.{moduleCount, partsEnd};
+ghost use Rattle.submission.specs.Layout.{layoutOf};
+ghost use Rattle.submission.specs.Format.{maxModules};
 ghost use Rattle.submission.specs.Rules.{isSubmission, inLimits, entryHolds, stringHolds, rulesHold};
 use crate::Layout;
 use crate::MAX_LINE;

@@ -1,5 +1,6 @@
--- The promises of a load, and their proofs. `Promises` is where to start, and `Theorem` says that they hold.
+-- What is promised, and that it holds. `Promises` is where to start.
 pub mod Promises
+pub mod SizeLaws
 pub mod AnsweredLaws
 pub mod WrittenLaws
 pub mod ReadBackLaws

@@ -1,41 +1,56 @@
--- The third promise: each item at its lowest place, no room exactly where there is none, and no byte shared.
---     placing    wherever none of checks 1 to 15 applies
---     apart      in every load
+-- The third promise: the kernel, and each item at its lowest place beside it, no room exactly where there is none.
+--     on-memory    wherever none of 1 to 14 holds
 -- Assumes nothing.
-use mathlib.Core.Path.{_≡_, refl, sym, ap, _∙_}
-use mathlib.Core.Bool.{true, false}
+use mathlib.Core.Path.{_≡_, refl, sym, ap, _∙_, subst}
+use mathlib.Core.Bool.{true, false, Bool, cond}
+use mathlib.Core.List.{List}
 use mathlib.Core.Logic.{_↔_, ⊎-elim}
 use Prim.Native.Nat.{ℕ, _+_, _-_, _≤_, _<_}
 use native.Mathlib.Omega.{arith}
 use borrow.Author.Tests.{lt-ltb, le-ltb, not-false, eq-eqb}
 use lib.ListN.{length}
-use Rattle.address.specs.Address.{noSpan, spanNo}
 use Rattle.laws.specs.Checks.{firstOf}
-use Rattle.laws.specs.TableLaws.{table-at, table-past}
-use Rattle.laws.specs.TestLaws.{lt-or-le}
-use Rattle.answer.specs.Answer.{isLoad}
-use Rattle.answer.specs.ChainLaws.{appliesNo, applies-front, applies-past, chain-append, or-else-second, none-given}
+use Rattle.laws.specs.TableLaws.{table-at}
+use Rattle.laws.specs.TestLaws.{lt-or-le, not-is, all-elim, all-intro}
+use Rattle.address.specs.declared.Span.{Span}
+use Rattle.address.specs.Address.{boundaryOf}
+use Rattle.address.specs.Span.{noSpan, spanNo, Holds}
+use Rattle.answer.specs.Answer.{isLoad, numberOf}
+use Rattle.answer.specs.ChainLaws.{applies-front, applies-past, chain-append, or-else-second, none-given}
+use Rattle.answer.specs.Chain.{appliesNo}
 use Rattle.answer.specs.declared.Answer.the-variants.{Load, NoRoomForModule, NoRoomForBlock}
+use Rattle.submission.specs.declared.Module.{Module}
 use Rattle.submission.specs.Rules.{submissionChecks}
-use Rattle.submission.specs.Format.{maxModules}
+use Rattle.submission.specs.Layout.{layoutOf}
+use Rattle.submission.specs.Format.{moduleCount, dataLength}
+use Rattle.submission.specs.FormatLaws.{layout-count, module-at}
 use Rattle.command_line.specs.CommandLine.{operatorChecks}
+use Rattle.image.specs.Judged.{headerChecks, loadChecks, imageChecks}
+use Rattle.image.specs.JudgedLaws.{good-kernel, calculated}
+use Rattle.image.specs.Kernel.{extentNo}
+use Rattle.memory_map.specs.Map.{mapChecks}
+use Rattle.usable.specs.UsableLaws.{usable-bytes}
 use Rattle.board.specs.Window.{windowChecks}
 use Rattle.board.specs.Open.{isOpen}
-use Rattle.memory_map.specs.Pairs.{mapChecks}
-use Rattle.image.specs.Judged.{headerChecks, loadChecks, imageChecks}
-use Rattle.image.specs.JudgedLaws.{good-kernel}
+use Rattle.board.specs.OpenLaws.{open-is, all-open-is}
+use Rattle.placement.specs.declared.Item.{Item}
 use Rattle.placement.specs.Free.{maxSpans}
-use Rattle.placement.specs.Placing.{InOrder}
-use Rattle.decision.specs.Lent.{Lent, layoutIn, imageIn, kernelIn, boardIn, blockLengthIn}
-use Rattle.items.specs.LoadItems.{extentNo, extentsOf, itemsOf, moduleSpans}
-use Rattle.decision.specs.Decided.{kernelOpen, kernelChecks, roomChecks, memoryChecks, planOf}
-use Rattle.decision.specs.Decision.{lentChecks, checks, answerOf, placedIn}
-use Rattle.decision.specs.DecisionLaws.{lent-refuses, lent-passed, prepared}
+use Rattle.placement.specs.InOrder.{InOrder}
+use Rattle.placement.specs.Order.{itemNo}
+use Rattle.placement.specs.Placing.{Stands, Suits}
+use Rattle.items.specs.LoadItems.{extentsOf, itemsOf, moduleSpans}
 use Rattle.items.specs.LoadItemsLaws.{item-at, item-module, item-block}
+use Rattle.decision.specs.Lent.{Lent}
+use Rattle.decision.specs.Read.{layoutIn, imageIn, kernelIn, boardIn, blockLengthIn}
+use Rattle.decision.specs.Decided.{kernelOpen, kernelChecks, roomChecks, memoryChecks, planOf, extentOpen}
+use Rattle.decision.specs.Decision.{lentChecks, checks, placedIn, decisionOf, planIn}
+use Rattle.decision.specs.DecisionLaws.{lent-refuses, lent-passed, prepared, LentPassed}
 use Rattle.decision.specs.PlacedLaws.{load-in-order}
 use Rattle.decision.specs.StageLaws.{kernel-refuses}
-use Rattle.loader.specs.LoadLaws.{Loads, module-span, block-span, span-apart, one-segment}
-use Rattle.theorems.specs.Promises.{moduleSpan, Reached, SuitsIn, Placing, Apart}
+use Rattle.loader.specs.LoadLaws.{Loads, module-span, block-span, span-apart, one-segment, loads, all-done, modules-past}
+use Rattle.theorems.specs.SizeLaws.{block-size}
+use Rattle.theorems.specs.AnsweredLaws.{holdsIn, answer-is, load-is, load-plan}
+use Rattle.theorems.specs.Promises.{Open, blockSize, Planned, Placing, OnMemory}
 
 -- what the checks of the room answer
 module _ (done n : ℕ) where
@@ -51,16 +66,20 @@ module _ (done n : ℕ) where
   unfolding firstOf roomChecks
   room-load l = rw (le-ltb done n (omega arith), le-ltb done (n + 1) (omega arith))
 
-  is-module : (i : ℕ) → firstOf (roomChecks done n) Load ≡ NoRoomForModule i → done ≡ i
-  is-module i e =
+  -- where a module is named there is such a module, and placing ended at it
+  module-short : (i : ℕ) → firstOf (roomChecks done n) Load ≡ NoRoomForModule i → done < n
+  module-short i e =
       ⊎-elim
-      (λ (l : done < n). cc (room-module l))
+      (λ (l : done < n). l)
       (λ (l : n ≤ done).
       ⊎-elim
       (λ (m : done < n + 1). let z : _≡_ {A = ℕ} 0 1 = cc (room-block (omega arith)) in absurd (omega arith))
       (λ (m : n + 1 ≤ done). let z : _≡_ {A = ℕ} 0 1 = cc (room-load (omega arith)) in absurd (omega arith))
       (lt-or-le done (n + 1)))
       (lt-or-le done n)
+
+  is-module : (i : ℕ) → firstOf (roomChecks done n) Load ≡ NoRoomForModule i → done ≡ i
+  is-module i e = cc (room-module (module-short i e))
 
   is-block : firstOf (roomChecks done n) Load ≡ NoRoomForBlock → done ≡ n
   is-block e =
@@ -73,7 +92,50 @@ module _ (done n : ℕ) where
       (lt-or-le done (n + 1)))
       (lt-or-le done n)
 
-module _ (x : Lent) (r : Reached x) where
+-- what suits and stands over one notion of open memory does so over another that says the same
+module _ {O P : ℕ → Type 0} (is : (y : ℕ) → O y ↔ P y) (spans : List Span) (c n b : ℕ) where
+  suits-same : (a : ℕ) → Suits O spans c n b a ↔ Suits P spans c n b a
+  suits-same a = (
+    λ h. record { low = h .low; boundary = h .boundary; opened = λ y l u. is y .0 (h .opened y l u); apart = h .apart },
+    λ h. record { low = h .low; boundary = h .boundary; opened = λ y l u. is y .1 (h .opened y l u); apart = h .apart },
+  )
+
+  stands-same : Stands O spans c n b → Stands P spans c n b
+  stands-same h =
+      record {
+        suits = suits-same (spanNo spans c .start .0) .0 (h .suits);
+        lowest = λ s l u. h .lowest s l (suits-same s .1 u);
+        length = h .length;
+      }
+
+  none-same : ((a : ℕ) → Suits O spans c n b a → ⊥) ↔ ((a : ℕ) → Suits P spans c n b a → ⊥)
+  none-same = (λ h a u. h a (suits-same a .1 u), λ h a u. h a (suits-same a .0 u))
+
+boundary-is : (pages : Bool) → boundaryOf pages ≡ cond pages 4096 4
+boundary-is true = refl
+boundary-is false = refl
+
+module _ (x : Lent) where
+  -- an address of the board is open, as a test and by the bytes of the map
+  open-in : (a : ℕ) → (isOpen (boardIn x) a ≡ true) ↔ Open x a
+  open-in a =
+      let o = open-is (boardIn x) a in
+      let u = usable-bytes (x .map) a in (
+        λ e. let k = o .0 e in record { usable = u .0 (k .usable); window = k .window },
+        λ k. o .1 (record { usable = u .1 (k .usable); window = k .window }),
+      )
+
+  kernel-open-is : (kernelOpen (boardIn x) (kernelIn x) ≡ true) ↔ ((i : ℕ) → i < kernelIn x .count → (a : ℕ) → Holds (extentNo (kernelIn x) i) a → Open x a)
+  unfolding kernelOpen extentOpen
+  kernel-open-is =
+      let b = boardIn x in
+      let k = kernelIn x in (
+        λ e i l a h. open-in a .0 (all-open-is b (extentNo k i .start .0) (extentNo k i .end .0) .0 (all-elim (extentOpen b k) 0 (k .count) e i (omega arith) (omega arith)) a (h .0) (h .1)),
+        λ h. all-intro (extentOpen b k) 0 (k .count) (λ i l m. all-open-is b (extentNo k i .start .0) (extentNo k i .end .0) .1 (λ a u v. open-in a .1 (h i (omega arith) a (u, v)))),
+      )
+
+-- none of 1 to 14 holds
+module _ (x : Lent) (r : (k : ℕ) → 1 ≤ k → k < 15 → holdsIn x k ≡ false) where
   lent-count : length (lentChecks x) ≡ 14
   unfolding lentChecks submissionChecks operatorChecks windowChecks mapChecks headerChecks loadChecks imageChecks
   lent-count = refl
@@ -82,75 +144,127 @@ module _ (x : Lent) (r : Reached x) where
   unfolding checks
   lent-none k =
       ⊎-elim
-      (λ (l : k < 14). sym (applies-front (lentChecks x) (memoryChecks (boardIn x) (kernelIn x) (layoutIn x) (blockLengthIn x)) k (omega (arith, lent-count))) ∙ r k (omega arith))
+      (λ (l : k < 14).
+      let e : k + 1 - 1 ≡ k = omega arith in
+      sym (applies-front (lentChecks x) (memoryChecks (boardIn x) (kernelIn x) (layoutIn x) (blockLengthIn x)) k (omega (arith, lent-count))) ∙ (rw e at (r (k + 1) (omega arith) (omega arith))))
       (λ (l : 14 ≤ k). applies-past (lentChecks x) k (omega (arith, lent-count)))
       (lt-or-le k 14)
 
   lent-load : isLoad (firstOf (lentChecks x) Load) ≡ true
   lent-load = eq-eqb _ _ (none-given (lentChecks x) lent-none)
 
-  opened : kernelOpen (boardIn x) (kernelIn x) ≡ true
-  unfolding checks lentChecks submissionChecks operatorChecks windowChecks mapChecks headerChecks loadChecks imageChecks kernelChecks roomChecks
-  opened = not-false _ (r 14 (omega arith))
+  known : LentPassed x
+  known = lent-passed x lent-load
 
-  kernel-load : isLoad (firstOf (kernelChecks (boardIn x) (kernelIn x)) Load) ≡ true
-  unfolding firstOf kernelChecks
-  kernel-load = rw opened
+  -- the places, where 15 does not hold either
+  module _ (r15 : holdsIn x 15 ≡ false) where
+    opened : kernelOpen (boardIn x) (kernelIn x) ≡ true
+    unfolding checks lentChecks submissionChecks operatorChecks windowChecks mapChecks headerChecks loadChecks imageChecks kernelChecks roomChecks
+    opened = not-false _ r15
 
-  -- the answer is that of the room
-  room-answer : answerOf x ≡ firstOf (roomChecks (placedIn x .done) (layoutIn x .count)) Load
-  unfolding checks
-  room-answer =
-      rw (chain-append (lentChecks x) (memoryChecks (boardIn x) (kernelIn x) (layoutIn x) (blockLengthIn x)) (lent-refuses x))
-      (or-else-second _ _ lent-load
-      ∙ chain-append (kernelChecks (boardIn x) (kernelIn x)) (roomChecks (placedIn x .done) (layoutIn x .count)) (kernel-refuses (boardIn x) (kernelIn x))
-      ∙ or-else-second _ _ kernel-load)
+    kernel-load : isLoad (firstOf (kernelChecks (boardIn x) (kernelIn x)) Load) ≡ true
+    unfolding firstOf kernelChecks
+    kernel-load = rw opened
 
-  order : InOrder (isOpen (boardIn x)) (extentsOf (kernelIn x)) (itemsOf (layoutIn x) (kernelIn x .pages) (blockLengthIn x)) (placedIn x)
-  order = load-in-order (boardIn x) (kernelIn x) (layoutIn x) (blockLengthIn x) (prepared x (lent-passed x lent-load))
+    -- the answer is that of the room
+    room-answer : decisionOf x .answer ≡ firstOf (roomChecks (placedIn x .done) (layoutIn x .count)) Load
+    unfolding checks
+    room-answer =
+        answer-is x
+        ∙ rw (chain-append (lentChecks x) (memoryChecks (boardIn x) (kernelIn x) (layoutIn x) (blockLengthIn x)) (lent-refuses x))
+        (or-else-second _ _ lent-load
+        ∙ chain-append (kernelChecks (boardIn x) (kernelIn x)) (roomChecks (placedIn x .done) (layoutIn x .count)) (kernel-refuses (boardIn x) (kernelIn x))
+        ∙ or-else-second _ _ kernel-load)
 
-  no-room : (i : ℕ) → i < layoutIn x .count → i ≤ placedIn x .done → (answerOf x ≡ NoRoomForModule i) ↔ ((a : ℕ) → SuitsIn x i a → ⊥)
-  unfolding extentsOf itemsOf
-  no-room i l m =
-      let e = order .ends i (omega arith) m in (
-        λ (z : answerOf x ≡ NoRoomForModule i). e .0 (is-module _ _ i (sym room-answer ∙ z)),
-        λ (s : (a : ℕ) → SuitsIn x i a → ⊥). let d = e .1 s in room-answer ∙ room-module _ _ (omega arith) ∙ ap NoRoomForModule d,
-      )
+    order : InOrder (isOpen (boardIn x)) (extentsOf (kernelIn x)) (itemsOf (layoutIn x) (kernelIn x .pages) (blockLengthIn x)) (placedIn x)
+    order = load-in-order (boardIn x) (kernelIn x) (layoutIn x) (blockLengthIn x) (prepared x known)
 
-  no-room-block : layoutIn x .count ≤ placedIn x .done → (answerOf x ≡ NoRoomForBlock) ↔ ((a : ℕ) → SuitsIn x (layoutIn x .count) a → ⊥)
-  unfolding extentsOf itemsOf
-  no-room-block m =
-      let e = order .ends (layoutIn x .count) (omega arith) m in (
-        λ (z : answerOf x ≡ NoRoomForBlock). e .0 (is-block _ _ (sym room-answer ∙ z)),
-        λ (s : (a : ℕ) → SuitsIn x (layoutIn x .count) a → ⊥). room-answer ∙ room-block _ _ (e .1 s),
-      )
+    -- the items by the bytes of the submission
+    module-item : (i : ℕ) → i < moduleCount (x .submission) → itemNo (itemsOf (layoutIn x) (kernelIn x .pages) (blockLengthIn x)) i ≡ record { length = dataLength (x .submission) i; pages = kernelIn x .pages }
+    module-item i l =
+        item-at (layoutIn x) (kernelIn x .pages) (blockLengthIn x) i (omega (arith, layout-count (x .submission)))
+        ∙ item-module (layoutIn x) (kernelIn x .pages) (blockLengthIn x) i (omega (arith, layout-count (x .submission)))
+        ∙ ap (λ (m : Module). record { length = m .«data» .len; pages = kernelIn x .pages }) (module-at (x .submission) i l)
 
-  pub placing : Placing x
-  unfolding extentsOf
-  placing =
+    block-item : itemNo (itemsOf (layoutIn x) (kernelIn x .pages) (blockLengthIn x)) (layoutIn x .count) ≡ record { length = blockSize x; pages = false }
+    block-item =
+        item-at (layoutIn x) (kernelIn x .pages) (blockLengthIn x) (layoutIn x .count) (omega arith)
+        ∙ item-block (layoutIn x) (kernelIn x .pages) (blockLengthIn x)
+        ∙ ap (λ (n : ℕ). record { length = n; pages = false }) (block-size x known)
+
+    -- what holds of the item of an index holds of so many bytes on a boundary
+    of-item : (P : ℕ → ℕ → Type 0) (i n : ℕ) (pages : Bool) → itemNo (itemsOf (layoutIn x) (kernelIn x .pages) (blockLengthIn x)) i ≡ record { length = n; pages = pages }
+        → P (itemNo (itemsOf (layoutIn x) (kernelIn x .pages) (blockLengthIn x)) i .length) (boundaryOf (itemNo (itemsOf (layoutIn x) (kernelIn x .pages) (blockLengthIn x)) i .pages)) → P n (cond pages 4096 4)
+    of-item P i n pages e p = subst (P n) (boundary-is pages) (subst (λ (q : Item). P (q .length) (boundaryOf (q .pages))) e p)
+
+    stood : (i n : ℕ) (pages : Bool) → itemNo (itemsOf (layoutIn x) (kernelIn x .pages) (blockLengthIn x)) i ≡ record { length = n; pages = pages } → i < placedIn x .done
+        → Stands (Open x) (placedIn x .spans .list) (kernelIn x .count + i) n (cond pages 4096 4)
+    unfolding extentsOf
+    stood i n pages e l =
+        stands-same (open-in x) (placedIn x .spans .list) (kernelIn x .count + i) n (cond pages 4096 4)
+        (of-item (λ m b. Stands (λ y. isOpen (boardIn x) y ≡ true) (placedIn x .spans .list) (kernelIn x .count + i) m b) i n pages e (order .stands i l))
+
+    ended : (i n : ℕ) (pages : Bool) → itemNo (itemsOf (layoutIn x) (kernelIn x .pages) (blockLengthIn x)) i ≡ record { length = n; pages = pages } → i ≤ layoutIn x .count → i ≤ placedIn x .done
+        → (placedIn x .done ≡ i) ↔ ((a : ℕ) → Suits (Open x) (placedIn x .spans .list) (kernelIn x .count + i) n (cond pages 4096 4) a → ⊥)
+    unfolding extentsOf itemsOf
+    ended i n pages e l m =
+        let s = none-same (open-in x) (placedIn x .spans .list) (kernelIn x .count + i) n (cond pages 4096 4) in
+        let o =
+        of-item (λ k b. (placedIn x .done ≡ i) ↔ ((a : ℕ) → Suits (λ y. isOpen (boardIn x) y ≡ true) (placedIn x .spans .list) (kernelIn x .count + i) k b a → ⊥)) i n pages e (order .ends i (omega arith) m) in
+        (λ d. s .0 (o .0 d), λ u. o .1 (s .1 u))
+
+    -- the plan of a load
+    planned : (h : Loads x) → Planned x (kernelIn x) (placedIn x .spans .list) (planIn x)
+    unfolding planOf moduleSpans layoutOf
+    planned h =
+        let k = good-kernel (imageIn x) (h .passed .image) in
+        record {
+          kernel = refl;
+          modules = module-span x h;
+          past = modules-past x h;
+          block = block-span x h;
+          eax = refl;
+          ebx = refl;
+          entry = (k .low, k .high);
+          bss = λ i l. let z : i ≡ 0 = omega (arith, one-segment x h) in rw z (omega (arith, k .low, k .high), k .end);
+          apart = span-apart x h;
+        }
+
+    load-planned : numberOf (decisionOf x .answer) ≡ 0 → (placedIn x .done ≡ moduleCount (x .submission) + 1) × Planned x (kernelIn x) (placedIn x .spans .list) (decisionOf x .plan)
+    load-planned e =
+        let h = loads x (load-is x e) in
+        (all-done x h ∙ omega (arith, layout-count (x .submission)), rw (load-plan x e) (planned h))
+
+    places : Placing x (kernelIn x) (decisionOf x)
+    unfolding extentsOf layoutOf
+    places =
+        record {
+          spans = placedIn x .spans .list;
+          done = placedIn x .done;
+          kernel = λ j l. order .kept j l ∙ table-at (extentNo (kernelIn x)) maxSpans noSpan (kernelIn x .count) j l;
+          modules = λ i l m. stood i (dataLength (x .submission) i) (kernelIn x .pages) (module-item i l) m;
+          block = λ l. stood (layoutIn x .count) (blockSize x) false block-item l;
+          no-room = λ i l m.
+              let e = ended i (dataLength (x .submission) i) (kernelIn x .pages) (module-item i l) (omega arith) m in (
+                λ z. e .0 (is-module _ _ i (sym room-answer ∙ z)),
+                λ s. let d = e .1 s in room-answer ∙ room-module _ _ (omega arith) ∙ ap NoRoomForModule d,
+              );
+          no-room-block = λ m.
+              let e = ended (layoutIn x .count) (blockSize x) false block-item (omega arith) m in (
+                λ z. e .0 (is-block _ _ (sym room-answer ∙ z)),
+                λ s. room-answer ∙ room-block _ _ (e .1 s),
+              );
+          at-module = λ i z. let e = is-module _ _ i (sym room-answer ∙ z) in (e, omega (arith, module-short _ _ i (sym room-answer ∙ z)));
+          at-block = λ z. is-block _ _ (sym room-answer ∙ z);
+          load = load-planned;
+        }
+
+  pub on-memory : OnMemory x (decisionOf x) (holdsIn x)
+  unfolding checks lentChecks submissionChecks operatorChecks windowChecks mapChecks headerChecks loadChecks imageChecks kernelChecks roomChecks layoutOf
+  on-memory =
       record {
-        modules = λ i l. item-at (layoutIn x) (kernelIn x .pages) (blockLengthIn x) i (omega arith) ∙ item-module (layoutIn x) (kernelIn x .pages) (blockLengthIn x) i l;
-        block = item-at (layoutIn x) (kernelIn x .pages) (blockLengthIn x) (layoutIn x .count) (omega arith) ∙ item-block (layoutIn x) (kernelIn x .pages) (blockLengthIn x);
-        kernel = λ j l. order .kept j l ∙ table-at (extentNo (kernelIn x)) maxSpans noSpan (kernelIn x .count) j l;
-        lowest = order .stands;
-        no-room = no-room;
-        no-room-block = no-room-block;
-      }
-
-module _ (x : Lent) (h : Loads x) where
-  past : (i : ℕ) → layoutIn x .count ≤ i → moduleSpan x i ≡ noSpan
-  unfolding planOf moduleSpans
-  past i l = table-past (λ j. spanNo (placedIn x .spans .list) (kernelIn x .count + j)) maxModules noSpan (layoutIn x .count) i l
-
-  pub apart : Apart x
-  apart =
-      record {
-        modules = module-span x h;
-        block = block-span x h;
-        past = past;
-        apart = span-apart x h;
-        loaded = λ i l.
-            let k = good-kernel (imageIn x) (h .passed .image) in
-            let z : i ≡ 0 = omega (arith, one-segment x h) in
-            rw z (omega (arith, k .low, k .high), k .end);
+        kernel = kernelIn x;
+        calculated = calculated (imageIn x) (known .image);
+        c15 = not-is (kernelOpen (boardIn x) (kernelIn x)) (kernel-open-is x);
+        placing = places;
       }

@@ -9,31 +9,32 @@ use Prim.Native.Nat.{ℕ, _+_, _-_, _≤_, _<_}
 use native.Mathlib.Omega.{arith}
 use lib.ListN.{length, getD, length-append, length-replicate, getD-replicate, List·getD-append}
 use lib.Seq.{getD-at, getD-append-add}
-use Rattle.image.specs.Judged.{segmentNo}
 use Rattle.laws.specs.TableLaws.{length-listed, listed-at}
 use Rattle.laws.specs.TestLaws.{lt-or-le}
 use Rattle.buffer.specs.Patched.{zeros}
-use Rattle.buffer.specs.Writes.{noWrite, writeNo, written, Reaches}
-use Rattle.buffer.specs.WritesLaws.{length-written, written-outside, written-inside}
+use Rattle.buffer.specs.Writes.{written}
+use Rattle.buffer.specs.WritesLaws.{noWrite, writeNo, Reaches, length-written, written-outside, written-inside}
 use Rattle.address.specs.declared.Span.{Span}
+use Rattle.address.specs.Span.{Holds, spanNo}
 use Rattle.answer.specs.Answer.{isLoad}
+use Rattle.submission.specs.declared.Module.{Module}
 use Rattle.submission.specs.declared.Part.{Part}
-use Rattle.submission.specs.Format.{bytesOf, moduleCount, moduleNo}
+use Rattle.submission.specs.Format.{moduleCount}
+use Rattle.submission.specs.Layout.{bytesOf, moduleNo, layoutOf}
 use Rattle.submission.specs.FormatLaws.{layout-count, module-at, length-bytesOf, bytesOf-at}
 use Rattle.submission.specs.RuleLaws.{data-inside}
+use Rattle.image.specs.Kernel.{segmentNo, extentNo}
 use Rattle.image.specs.declared.Segment.{Segment}
 use Rattle.image.specs.JudgedLaws.{good-kernel}
-use Rattle.address.specs.InsideLaws.{Holds}
-use Rattle.block.specs.Block.{blockOf}
-use Rattle.block.specs.WritingLaws.{length-load}
-use Rattle.decision.specs.Lent.{Lent, layoutIn, imageIn, kernelIn, lineIn}
-use Rattle.items.specs.LoadItems.{extentNo}
+use Rattle.decision.specs.Lent.{Lent}
+use Rattle.decision.specs.Read.{layoutIn, imageIn, kernelIn, lineIn}
 use Rattle.decision.specs.Decided.{planOf}
 use Rattle.decision.specs.Decision.{answerOf, planIn}
+use Rattle.block.specs.WritingLaws.{length-load}
 use Rattle.loader.specs.Memory.{segmentWrite, segmentWrites, moduleWrite, moduleWrites, contentsIn, blockWrite, writesOf, memoryAfter}
 use Rattle.loader.specs.LoadLaws.{Loads, spanIn, countIn, span-inside, span-apart, kernel-span, one-segment, module-span, block-span, module-span-length, block-span-length}
 use Rattle.loader.specs.WriteLaws.{strings-in}
-use Rattle.theorems.specs.Promises.{byteAt, moduleSpan, Elsewhere, Written}
+use Rattle.theorems.specs.Promises.{Elsewhere, byteAt, Written}
 
 module _ (x : Lent) (h : Loads x) where
   -- the write of each span, in the order of the spans
@@ -149,7 +150,7 @@ module _ (x : Lent) (h : Loads x) where
     memory-is = rw load refl
 
     -- the byte of a span is its write's
-    byte-in : (j : ℕ) → j < countIn x → (a : ℕ) → Holds (spanIn x j) a → byteAt x w a ≡ getD (writeNo (writesOf x) j .bytes) (a - spanIn x j .start .0) 0
+    byte-in : (j : ℕ) → j < countIn x → (a : ℕ) → Holds (spanIn x j) a → byteAt x (memoryAfter x w) a ≡ getD (writeNo (writesOf x) j .bytes) (a - spanIn x j .start .0) 0
     byte-in j l a m =
         let o = write-of j l in
         let i = span-inside x h j l in
@@ -160,7 +161,7 @@ module _ (x : Lent) (h : Loads x) where
         ∙ ap (λ (k : ℕ). getD (writeNo (writesOf x) j .bytes) k 0) e
 
     -- the byte of no span is what was there
-    byte-out : (a : ℕ) → x .first ≤ a → ((j : ℕ) → j < countIn x → Holds (spanIn x j) a → ⊥) → byteAt x w a ≡ getD w (a - x .first) 0
+    byte-out : (a : ℕ) → x .first ≤ a → ((j : ℕ) → j < countIn x → Holds (spanIn x j) a → ⊥) → byteAt x (memoryAfter x w) a ≡ byteAt x w a
     byte-out a u m =
         ap (λ (v : List ℕ). getD v (a - x .first) 0) memory-is
         ∙ written-outside w (writesOf x) (a - x .first) 0 (λ j l c. m j (omega (arith, length-writes)) (holds-of j (omega (arith, length-writes)) a u c))
@@ -190,20 +191,20 @@ module _ (x : Lent) (h : Loads x) where
       unfolding s p
       length-part = length-bytesOf (imageIn x) p in-image
 
-      in-span : s .start .0 ≤ a → a < s .«extent_end» .0 → byteAt x w a ≡ getD (bytesOf (imageIn x) p ++ zeros (s .«extent_end» .0 - s .«load_end» .0)) (a - s .start .0) 0
+      in-span : s .start .0 ≤ a → a < s .«extent_end» .0 → byteAt x (memoryAfter x w) a ≡ getD (bytesOf (imageIn x) p ++ zeros (s .«extent_end» .0 - s .«load_end» .0)) (a - s .start .0) 0
       unfolding s p segmentWrite
       in-span l m =
           let e = kernel-span x h i u in
           byte-in i (omega arith) a (rw e (l, m)) ∙ rw (segment-write i u, e) refl
 
-      loaded-byte : s .start .0 ≤ a → a < s .«load_end» .0 → byteAt x w a ≡ getD (imageIn x) (s .offset .0 + (a - s .start .0)) 0
+      loaded-byte : s .start .0 ≤ a → a < s .«load_end» .0 → byteAt x (memoryAfter x w) a ≡ getD (imageIn x) (s .offset .0 + (a - s .start .0)) 0
       unfolding s p
       loaded-byte l m =
           in-span l (omega (arith, ordered .1))
           ∙ List·getD-append (bytesOf (imageIn x) p) (zeros (s .«extent_end» .0 - s .«load_end» .0)) 0 (a - s .start .0) (omega (arith, length-part))
           ∙ bytesOf-at (imageIn x) p (a - s .start .0) (omega arith)
 
-      bss-byte : s .«load_end» .0 ≤ a → a < s .«extent_end» .0 → byteAt x w a ≡ 0
+      bss-byte : s .«load_end» .0 ≤ a → a < s .«extent_end» .0 → byteAt x (memoryAfter x w) a ≡ 0
       unfolding s p
       bss-byte l m =
           let e : a - s .start .0 ≡ length (bytesOf (imageIn x) p) + (a - s .«load_end» .0) = omega (arith, length-part, ordered .0) in
@@ -212,7 +213,7 @@ module _ (x : Lent) (h : Loads x) where
           ∙ getD-append-add (bytesOf (imageIn x) p) (zeros (s .«extent_end» .0 - s .«load_end» .0)) (a - s .«load_end» .0) 0
           ∙ getD-replicate (s .«extent_end» .0 - s .«load_end» .0) (a - s .«load_end» .0) 0 0 (omega arith)
 
-    module-byte : (i : ℕ) → i < layoutIn x .count → (a : ℕ) → Holds (moduleSpan x i) a → byteAt x w a ≡ getD (x .submission) (moduleNo (layoutIn x) i .«data» .at + (a - moduleSpan x i .start .0)) 0
+    module-byte : (i : ℕ) → i < layoutIn x .count → (a : ℕ) → Holds (spanNo (planIn x .modules) i) a → byteAt x (memoryAfter x w) a ≡ getD (x .submission) (moduleNo (layoutIn x) i .«data» .at + (a - spanNo (planIn x .modules) i .start .0)) 0
     unfolding moduleWrite
     module-byte i u a m =
         let e = module-span x h i u in
@@ -221,13 +222,8 @@ module _ (x : Lent) (h : Loads x) where
         byte-in (kernelIn x .count + i) (omega arith) a q
         ∙ rw (module-write i u, e) (bytesOf-at (x .submission) (moduleNo (layoutIn x) i .«data») (a - spanIn x (kernelIn x .count + i) .start .0) (omega arith))
 
-    block-byte : (a : ℕ) → Holds (planIn x .block) a → byteAt x w a ≡ getD (blockOf (contentsIn x)) (a - planIn x .block .start .0) 0
-    unfolding blockWrite
-    block-byte a m =
-        let e = block-span x h in
-        byte-in (kernelIn x .count + layoutIn x .count) (omega arith) a (rw e at m) ∙ rw (block-write, e) refl
-
-    elsewhere-byte : (a : ℕ) → x .first ≤ a → Elsewhere x a → byteAt x w a ≡ getD w (a - x .first) 0
+    elsewhere-byte : (a : ℕ) → x .first ≤ a → Elsewhere x (planIn x) a → byteAt x (memoryAfter x w) a ≡ byteAt x w a
+    unfolding planOf layoutOf
     elsewhere-byte a l o =
         byte-out a l
         (λ j u m.
@@ -241,14 +237,13 @@ module _ (x : Lent) (h : Loads x) where
         (lt-or-le (j - kernelIn x .count) (layoutIn x .count)))
         (lt-or-le j (kernelIn x .count)))
 
-    pub written-bytes : Written x w
-    unfolding s
+    pub written-bytes : Written x (planIn x) w (memoryAfter x w)
+    unfolding s planOf layoutOf
     written-bytes =
         record {
           size = ap length memory-is ∙ length-written w (writesOf x);
-          loaded = λ i u a l m. loaded-byte i u a l m;
-          bss = λ i u a l m. bss-byte i u a l m;
-          modules = module-byte;
-          block = block-byte;
+          loaded = loaded-byte;
+          bss = bss-byte;
+          modules = λ i u a m. module-byte i u a m ∙ ap (λ (k : Module). getD (x .submission) (k .«data» .at + (a - spanNo (planIn x .modules) i .start .0)) 0) (module-at (x .submission) i u);
           elsewhere = λ a l m o. elsewhere-byte a l o;
         }

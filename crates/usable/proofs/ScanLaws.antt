@@ -13,12 +13,12 @@ use lib.Dec.{ltb}
 use lib.ListN.{length, List·getD-eq-default}
 use Rattle.laws.specs.Tests.{any}
 use Rattle.laws.specs.TestLaws.{any-more, any-here, any-past}
-use Rattle.memory_map.specs.declared.MemMap.{MemMap}
-use Rattle.memory_map.specs.declared.Pair.{Pair}
 use Rattle.address.specs.Address.{inside}
 use Rattle.edge.specs.Edge.{nearest, edgeUpTo}
 use Rattle.edge.specs.EdgeLaws.{edges-past}
-use Rattle.memory_map.specs.Pairs.{maxPairs, noPair, pairNo}
+use Rattle.memory_map.specs.declared.MemMap.{MemMap}
+use Rattle.memory_map.specs.declared.Pair.{Pair}
+use Rattle.memory_map.specs.Map.{maxPairs, noPair, pairNo}
 use Rattle.usable.specs.Usable.{ram, addressSpace, covers, usableBy, barredBy, isUsable}
 use Rattle.usable.specs.MapEdge.{mapEdge}
 

@@ -4,7 +4,7 @@
 use Prim.Native.Nat.{ℕ, _+_}
 use Rattle.edge.specs.Edge.{nearest, edgeUpTo}
 use Rattle.memory_map.specs.declared.MemMap.{MemMap}
-use Rattle.memory_map.specs.Pairs.{pairNo}
+use Rattle.memory_map.specs.Map.{pairNo}
 use Rattle.usable.specs.Usable.{addressSpace}
 
 unfoldable pub mapEdge : MemMap → ℕ → ℕ → ℕ

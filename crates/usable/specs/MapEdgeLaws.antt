@@ -11,7 +11,7 @@ use Rattle.laws.specs.TestLaws.{any-same}
 use Rattle.edge.specs.Edge.{nearest}
 use Rattle.edge.specs.EdgeLaws.{Edge, Edges, nearest-is, ltb-not, edges-are}
 use Rattle.memory_map.specs.declared.MemMap.{MemMap}
-use Rattle.memory_map.specs.Pairs.{pairNo}
+use Rattle.memory_map.specs.Map.{pairNo}
 use Rattle.usable.specs.Usable.{ram, addressSpace, covers, usableBy, barredBy, isUsable}
 use Rattle.usable.specs.MapEdge.{mapEdge}
 

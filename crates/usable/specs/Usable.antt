@@ -1,8 +1,8 @@
 -- Which addresses are usable.                                                    rules: MAP, USABLE
---     ram, addressSpace             the type of usable memory, and where usable addresses end
---     covers                 the pair covers the address
---     usableBy, barredBy     a pair of usable memory covers it, or one of another type
---     isUsable               the address is usable
+--     ram, addressSpace     the type of usable memory, and where usable addresses end
+--     covers                the pair covers the address
+--     usableBy, barredBy    a pair of usable memory covers it, or one of another type
+--     isUsable              the address is usable
 -- Assumes nothing.
 use mathlib.Core.Bool.{Bool, not, _&&_}
 use Prim.Native.Nat.{ℕ, _+_, _^_}
@@ -11,7 +11,7 @@ use Rattle.laws.specs.Tests.{any}
 use Rattle.address.specs.Address.{inside}
 use Rattle.memory_map.specs.declared.Pair.{Pair}
 use Rattle.memory_map.specs.declared.MemMap.{MemMap}
-use Rattle.memory_map.specs.Pairs.{pairNo}
+use Rattle.memory_map.specs.Map.{pairNo}
 
 abbrev pub ram : ℕ
 ram = 1

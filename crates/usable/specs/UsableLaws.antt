@@ -1,7 +1,9 @@
 -- Usable addresses in propositions.
---     covers-is     a pair covers the addresses from its base up to base + length, which never wraps: covers-exact
---     usable-is     some pair of type 1 covers the address below 2^32, and no pair of another type does
+--     covers-is              a pair covers the addresses from its base up to base + length, which never wraps: covers-exact
+--     UsableBy, usable-is    some pair of type 1 covers the address below 2^32, and no pair of another type does
+--     usable-bytes           the same by the bytes of the map
 -- Assumes nothing.
+use mathlib.Core.List.{List}
 use mathlib.Core.Path.{_≡_, refl, sym, _∙_}
 use mathlib.Core.Bool.{Bool, true, false, not, _&&_, false≢true}
 use mathlib.Core.Logic.{⊎-elim, _↔_}
@@ -14,8 +16,11 @@ use Rattle.address.specs.Address.{inside}
 use Rattle.address.specs.InsideLaws.{inside-is}
 use Rattle.memory_map.specs.declared.Pair.{Pair}
 use Rattle.memory_map.specs.declared.MemMap.{MemMap}
-use Rattle.memory_map.specs.Pairs.{pairNo}
+use Rattle.memory_map.specs.Map.{pairNo, pairCount, pairAt, mapOf, firstPairs}
+use Rattle.memory_map.specs.Pairs.{pairOffset}
+use Rattle.memory_map.specs.PairsLaws.{pair-listed, count-begins, begins-count}
 use Rattle.usable.specs.Usable.{ram, addressSpace, covers, usableBy, barredBy, isUsable}
+use Rattle.usable.specs.UsableAddress.{Usable}
 
 abbrev pub Covers : Pair → ℕ → Type 0
 Covers p a = (p .base ≤ a) × (a < p .base + p .length)
@@ -29,7 +34,7 @@ pub covers-exact : covers (record { base = 2 ^ 64 - 1; length = 2; kind = ram })
 unfolding covers inside
 covers-exact = refl
 
-pub record Usable (m : MemMap) (a : ℕ) : Type 0 where
+pub record UsableBy (m : MemMap) (a : ℕ) : Type 0 where
   pub below : a < addressSpace
   pub some : (i : ℕ) × (i < m .count) × (pairNo m i .kind ≡ ram) × Covers (pairNo m i) a
   pub none : (i : ℕ) → i < m .count → (pairNo m i .kind ≡ ram → ⊥) → Covers (pairNo m i) a → ⊥
@@ -51,7 +56,7 @@ module _ (m : MemMap) (a : ℕ) where
         λ h. rw (ne-eqb _ _ (h .0), covers-is (pairNo m i) a .1 (h .1)),
       )
 
-  pub usable-is : (isUsable m a ≡ true) ↔ Usable m a
+  pub usable-is : (isUsable m a ≡ true) ↔ UsableBy m a
   unfolding isUsable
   usable-is =
       let A : Bool = ltb a addressSpace in
@@ -72,3 +77,30 @@ module _ (m : MemMap) (a : ℕ) where
             let o : B ≡ false = any-none (barredBy m a) (m .count) (λ i l. ⊎-elim (λ t. let k = by-barred i .0 t in absurd (h .none i l (k .0) (k .1))) (λ t. t) (true-or-false (barredBy m a i))) in
             rw (p, q, o),
       )
+
+-- the pairs of a map by their bytes
+module _ (m : List ℕ) (a : ℕ) where
+  pair-is : (i : ℕ) → i < pairCount m → pairNo (mapOf m) i ≡ pairAt m (pairOffset m i)
+  pair-is i l = pair-listed m (pairCount m) i l
+
+  pub usable-bytes : UsableBy (mapOf m) a ↔ Usable m a
+  unfolding pairAt firstPairs
+  usable-bytes = (
+    λ u.
+        let s = u .some in
+        let e = pair-is (s .0) (s .1) in
+        record {
+          below = u .below;
+          some = (s .0, count-begins m (s .0) (s .1), rw e at (s .2), rw e at (s .3));
+          none = λ i b k c. let q = pair-is i (begins-count m i b) in u .none i (begins-count m i b) (rw q k) (rw q c);
+        },
+    λ u.
+        let s = u .some in
+        let l = begins-count m (s .0) (s .1) in
+        let e = pair-is (s .0) l in
+        record {
+          below = u .below;
+          some = (s .0, l, rw e (s .2), rw e (s .3));
+          none = λ i l k c. let q = pair-is i l in u .none i (count-begins m i l) (rw q at k) (rw q at c);
+        },
+  )

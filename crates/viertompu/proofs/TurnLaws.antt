@@ -13,7 +13,7 @@ use Rattle.buffer.specs.PatchedLaws.{patched-append, patched-split}
 use Rattle.address.specs.declared.Span.{Span}
 use Rattle.submission.specs.Format.{maxModules}
 use Rattle.image.specs.declared.Kernel.{Kernel}
-use Rattle.image.specs.Judged.{maxSegments}
+use Rattle.image.specs.Kernel.{maxSegments}
 use Rattle.decision.specs.declared.Decision.{Decision}
 use Rattle.viertompu.specs.Joined.{joined}
 use Rattle.viertompu.specs.JoinedLaws.{stored, length-joined, joined-written}

@@ -1,4 +1,4 @@
--- Rows of numbers, one behind the other.
+-- Lists joined one behind the other.
 --     joined f n    f 0, f 1 and so on, n of them
 -- Assumes nothing.
 use mathlib.Core.List.{List, [], _++_}

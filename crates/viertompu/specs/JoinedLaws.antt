@@ -1,8 +1,8 @@
--- Laws of joined, and of numbers stored one behind the other.
---     stored                     stores in a row are one write
---     joined-more                  a row more
---     length-joined, joined-short    joined of k numbers each, or of k at most
---     joined-written                a row more, behind those written
+-- Laws of lists joined one behind the other, and of numbers stored so.
+--     stored                         stores in a row are one write
+--     joined-more                    a list more
+--     length-joined, joined-short    lists of k numbers each, or of k at most
+--     joined-written                 a list more, behind those written
 -- Assumes nothing.
 use mathlib.Core.Path.{_≡_, refl, sym, _∙_}
 use mathlib.Core.List.{List, [], _∷_, _++_}
@@ -36,7 +36,7 @@ module _ (f : ℕ → List ℕ) where
   joined-short k e (suc n) =
       omega (arith, length-append (joined f n) (f n), joined-short k e n, e n, mul-suc k n)
 
-  -- a row more, behind those written
+  -- a list more, behind those written
   pub joined-written : (w : List ℕ) (at n m : ℕ) (u v : List ℕ) → m ≡ at + length (joined f n) → u ≡ patched w at (joined f n) → v ≡ patched u m (f n)
       → v ≡ patched w at (joined f (n + 1))
   joined-written w at n m u v e p q = rw (q, p, e, patched-append, joined-more) refl

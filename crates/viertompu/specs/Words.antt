@@ -1,20 +1,20 @@
 -- The plan as words.                                                                                    rule: PLAN
---     planSize, firstSegment, firstModule            how many words there are, and where segments and modules begin
---     wordsPerSegment, wordsPerModule                      how many words each of them has
---     wordOf                                       an address or an offset as a word
---     headWords, segmentWords, moduleWords         the words before the segments, of one segment, of one module
---     segmentsWords, modulesWords                  of all segments, of all modules
---     planWords                                    all words of a decision
+--     planSize, firstSegment, firstModule     how many words there are, and where segments and modules begin
+--     wordsPerSegment, wordsPerModule         how many words each of them has
+--     wordOf                                  an address or an offset as a word
+--     headWords, segmentWords, moduleWords    the words before the segments, of one segment, of one module
+--     segmentsWords, modulesWords             of all segments, of all modules
+--     planWords                               all words of a decision
 -- Assumes nothing.
 use mathlib.Core.List.{List, [], _∷_, _++_}
 use Prim.Native.Nat.{ℕ, _%_, _^_}
 use Rattle.buffer.specs.Patched.{zeros}
 use Rattle.address.specs.declared.Span.{Span}
-use Rattle.address.specs.Address.{spanNo}
+use Rattle.address.specs.Span.{spanNo}
 use Rattle.answer.specs.Answer.{numberOf, itemOf}
 use Rattle.submission.specs.Format.{maxModules}
 use Rattle.image.specs.declared.Kernel.{Kernel}
-use Rattle.image.specs.Judged.{maxSegments, segmentNo}
+use Rattle.image.specs.Kernel.{maxSegments, segmentNo}
 use Rattle.decision.specs.declared.Decision.{Decision}
 use Rattle.viertompu.specs.Joined.{joined}
 

@@ -8,8 +8,8 @@ use denote.Enum.Declared.{tagOf}
 use types.Run.{OneOf, miss}
 use Rattle.answer.specs.Answer.{itemOf}
 use Rattle.answer.specs.declared.Answer.{Answer}
-use Rattle.answer.proofs.Answer.{the-type}
 use Rattle.answer.specs.declared.Answer.the-variants.{Load, NotASubmission, BadSubmission, BadOperatorLine, WindowPastTop, BadMemoryMap, NoHeader, UnknownRequest, NoAddressFields, HeaderCutOff, LoadBeforeImage, NothingToLoad, LoadPastImage, BssBelowLoadEnd, EntryOutsideLoad, KernelNotOpen, NoRoomForModule, NoRoomForBlock}
+use Rattle.answer.proofs.Answer.{the-type}
 use Rattle.answer.proofs.item.Statement.{statement}
 use Rattle.answer.proofs.item.Tie as tie
 

@@ -1,8 +1,8 @@
 -- `answer::or_else` meets its contract: both branches are those of `orElse`.
 -- Assumes nothing.
 use mathlib.Core.Path.{sym, _∙_}
-use Rattle.answer.specs.ChainLaws.{or-else-first, or-else-second}
 use borrow.Author.Needs.{needs}
+use Rattle.answer.specs.ChainLaws.{or-else-first, or-else-second}
 use Rattle.answer.proofs.or_else.Statement.{statement}
 use Rattle.answer.proofs.or_else.Tie as tie
 

@@ -1,10 +1,10 @@
--- `memory::clear` meets its contract. The loop's invariant: the bytes passed are zero, and the others as they were.
+-- `buffer::clear` meets its contract. The loop's invariant: the bytes passed are zero, and the others as they were.
 -- Assumes nothing.
 use mathlib.Core.Path.{_≡_, sym, _∙_, ap}
 use Prim.Native.Nat.{ℕ, _-_, _≤_}
 use native.Mathlib.Omega.{arith}
-use lib.ListN.{length, length-set}
 use borrow.Author.Needs.{needs}
+use lib.ListN.{length, length-set}
 use Rattle.buffer.specs.Patched.{patched, zeros}
 use Rattle.buffer.specs.PatchedLaws.{patched-nil}
 use Rattle.buffer.proofs.PartLaws.{zeros-more, all-zeros}

@@ -1,10 +1,10 @@
--- `memory::write_bytes` meets its contract: a copy into the part that has room.
+-- `buffer::write_bytes` meets its contract: a copy into the part that has room.
 -- Assumes nothing.
 use mathlib.Core.Path.{_≡_, _∙_}
 use Prim.Native.Nat.{_-_}
 use native.Mathlib.Omega.{arith}
-use lib.ListN.{take, length-take, length-drop}
 use borrow.Author.Needs.{needs}
+use lib.ListN.{take, length-take, length-drop}
 use Rattle.buffer.proofs.PartLaws.{none-written, part-written, part-copied}
 use Rattle.buffer.proofs.write_bytes.Statement.{statement}
 use Rattle.buffer.proofs.write_bytes.Tie as tie

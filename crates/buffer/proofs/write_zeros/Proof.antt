@@ -1,4 +1,4 @@
--- `memory::write_zeros` meets its contract: the part that has room is cleared.
+-- `buffer::write_zeros` meets its contract: the part that has room is cleared.
 -- Assumes nothing.
 use Prim.Native.Nat.{_-_}
 use borrow.Author.Needs.{needs}

@@ -7,19 +7,20 @@ use Prim.Native.Nat.{ℕ}
 use native.Mathlib.Omega.{arith}
 use borrow.Author.Needs.{needs}
 use borrow.Author.Tests.{not-true, not-false}
+use Rattle.laws.specs.Checks.{firstOf, passes}
 use Rattle.answer.specs.Answer.{isLoad}
 use Rattle.answer.specs.ChainLaws.{passes-is}
 use Rattle.answer.specs.declared.Answer.{Answer}
 use Rattle.answer.specs.declared.Answer.the-variants.{Load}
-use Rattle.laws.specs.Checks.{firstOf, passes}
-use Rattle.submission.specs.Format.{linePart, layoutOf, bytesOf}
+use Rattle.submission.specs.Layout.{linePart, layoutOf, bytesOf}
 use Rattle.submission.specs.FormatLaws.{layout-line}
-use Rattle.submission.specs.Rules.{submissionChecks, parsedSubmission}
+use Rattle.submission.specs.Rules.{submissionChecks}
+use Rattle.submission.specs.Parse.{parsedSubmission}
 use Rattle.submission.specs.RuleLaws.{submission-refuses, parsed-layout}
-use Rattle.command_line.specs.CommandLine.{operatorChecks}
-use Rattle.command_line.specs.CommandLineLaws.{operator-refuses, line-refused-submission, line-refused-operator, line-of-operator, line-of-submission}
 use Rattle.submission.specs.declared.Layout.{Layout}
 use Rattle.submission.specs.declared.ParsedSubmission.{ParsedSubmission}
+use Rattle.command_line.specs.CommandLine.{operatorChecks}
+use Rattle.command_line.specs.CommandLineLaws.{operator-refuses, line-refused-submission, line-refused-operator, line-of-operator, line-of-submission}
 use Rattle.command_line.proofs.in_force.Statement.{statement}
 use Rattle.command_line.proofs.in_force.Tie as tie
 

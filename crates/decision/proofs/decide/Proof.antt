@@ -4,14 +4,14 @@ use mathlib.Core.Path.{_≡_, sym, ap, _∙_}
 use mathlib.Core.Bool.{true}
 use native.Mathlib.Omega.{arith}
 use borrow.Author.Tests.{not-true, not-false}
+use borrow.Author.Needs.{needs}
 use Rattle.laws.specs.Checks.{firstOf}
 use Rattle.answer.specs.Answer.{isLoad}
 use Rattle.answer.specs.declared.Answer.the-variants.{Load}
-use Rattle.memory_map.specs.Pairs.{mapOf}
-use Rattle.decision.specs.Lent.{Lent, layoutIn, kernelIn, boardIn, blockLengthIn}
+use Rattle.decision.specs.Lent.{Lent, lent}
+use Rattle.decision.specs.Read.{boardIn, blockLengthIn}
 use Rattle.decision.specs.Decision.{lentChecks}
-use Rattle.decision.specs.DecisionLaws.{lent-passed, prepared, block-small, verdict-is, layout-known, map-known, kernel-known, decided-refused, board-is, block-length-is, prepared-is, decision-is}
-use borrow.Author.Needs.{needs}
+use Rattle.decision.specs.DecisionLaws.{lent-passed, prepared, block-small, verdict-is, Stages, stages-known, decided-refused, board-is, block-length-is, prepared-is, decision-is}
 use Rattle.decision.proofs.decide.Statement.{statement}
 use Rattle.decision.proofs.decide.Tie as tie
 
@@ -42,29 +42,42 @@ is-load-requires c κs = search needs
 refuse-requires : tie.Need-refuse-requires
 refuse-requires c κs = search needs
 
--- what the stages gave, by name
-module _ (c : tie.After-first-refusal) where
-  abbrev start : tie.Start
-  start = c .before .before .before .before .before .before .before .before .before .before .before
+-- the places behind the calls, and what they gave
+module _ (judged-all : tie.After-first-refusal) where
+  abbrev windowed : tie.After-check-window
+  windowed = judged-all .before
+
+  abbrev operated : tie.After-check-operator
+  operated = windowed .before
+
+  abbrev judged : tie.After-judge
+  judged = operated .before
+
+  abbrev imaged : tie.After-bytes-of
+  imaged = judged .before
+
+  abbrev mapped : tie.After-parse2
+  mapped = imaged .before
+
+  abbrev read : tie.After-parse
+  read = mapped .before .before
 
   abbrev x : Lent
-  x = record { submission = start .args .submission .now; operator = start .args .operator .now; map = start .args .map .now; first = start .args .first; size = start .args .size }
+  x =
+      let start = read .before .before .before .before in
+      lent (start .args .submission .now) (start .args .operator .now) (start .args .map .now) (start .args .first) (start .args .size)
 
-  verdict : c .first-refusal .result ≡ firstOf (lentChecks x) Load
-  verdict = verdict-is x _ _ _ _ (c .before .before .before .before .before .before .before .parse .ensures) (c .before .before .before .before .before .parse2 .ensures) (c .before .before .before .before .bytes-of .ensures) (c .before .before .before .judge .ensures) _ _ _ (c .before .before .check-operator .ensures) (c .before .check-window .ensures) (c .first-refusal .ensures)
+  verdict : judged-all .first-refusal .result ≡ firstOf (lentChecks x) Load
+  verdict =
+      verdict-is x _ _ _ _ (read .parse .ensures) (mapped .parse2 .ensures) (imaged .bytes-of .ensures) (judged .judge .ensures)
+      _ _ _ (operated .check-operator .ensures) (windowed .check-window .ensures) (judged-all .first-refusal .ensures)
 
-  module _ (h : isLoad (c .first-refusal .result) ≡ true) where
+  module _ (h : isLoad (judged-all .first-refusal .result) ≡ true) where
     loads : isLoad (firstOf (lentChecks x) Load) ≡ true
     loads = ap isLoad (sym verdict) ∙ h
 
-    layout-is : c .before .before .before .before .before .before .before .parse .result .layout ≡ layoutIn x
-    layout-is = layout-known x _ _ _ _ (c .before .before .before .before .before .before .before .parse .ensures) (c .before .before .before .before .before .parse2 .ensures) (c .before .before .before .before .bytes-of .ensures) (c .before .before .before .judge .ensures) loads
-
-    map-is : c .before .before .before .before .before .parse2 .result .map ≡ mapOf (x .map)
-    map-is = map-known x _ _ _ _ (c .before .before .before .before .before .before .before .parse .ensures) (c .before .before .before .before .before .parse2 .ensures) (c .before .before .before .before .bytes-of .ensures) (c .before .before .before .judge .ensures) loads
-
-    kernel-is : c .before .before .before .judge .result .kernel ≡ kernelIn x
-    kernel-is = kernel-known x _ _ _ _ (c .before .before .before .before .before .before .before .parse .ensures) (c .before .before .before .before .before .parse2 .ensures) (c .before .before .before .before .bytes-of .ensures) (c .before .before .before .judge .ensures) loads
+    stages : Stages x (read .parse .result) (mapped .parse2 .result) (judged .judge .result)
+    stages = stages-known x _ _ _ _ (read .parse .ensures) (mapped .parse2 .ensures) (imaged .bytes-of .ensures) (judged .judge .ensures) loads
 
 -- where the verdict is a load
 passes : (c : tie.Else1) → isLoad (c .before .before .first-refusal .result) ≡ true
@@ -83,7 +96,7 @@ block-length-requires c κs =
     let d = c .before .before .before in
     let h = passes (c .before) in
     let p = lent-passed (x d) (loads d h) in
-    rw (layout-is d h, c .in-force .ensures) (prepared (x d) p .modules, omega (arith, block-small (x d) p .1))
+    rw (stages d h .layout, c .in-force .ensures) (prepared (x d) p .modules, omega (arith, block-small (x d) p .1))
 
 window-span-requires : tie.Need-window-span-requires
 window-span-requires c κs =
@@ -99,18 +112,18 @@ module _ (c : tie.After-kernel) where
   loaded = passes (c .before .before .before .before .before)
 
   block : c .before .before .before .block-length .result ≡ blockLengthIn (x d)
-  block = block-length-is (x d) _ _ _ (layout-is d loaded) (c .before .before .before .before .in-force .ensures) (c .before .before .before .block-length .ensures)
+  block = block-length-is (x d) _ _ _ (stages d loaded .layout) (c .before .before .before .before .in-force .ensures) (c .before .before .before .block-length .ensures)
 
-  board : record { map = d .before .before .before .before .before .parse2 .result .map; window = c .before .window-span .result } ≡ boardIn (x d)
-  board = board-is (x d) _ _ (map-is d loaded) (c .before .window-span .ensures)
+  board : record { map = mapped d .parse2 .result .map; window = c .before .window-span .result } ≡ boardIn (x d)
+  board = board-is (x d) _ _ (stages d loaded .map) (c .before .window-span .ensures)
 
 decide-memory-requires : tie.Need-decide-memory-requires
-decide-memory-requires c κs = prepared-is (x (d c)) _ _ _ _ (board c) (kernel-is (d c) (loaded c)) (layout-is (d c) (loaded c)) (block c) (lent-passed (x (d c)) (loads (d c) (loaded c)))
+decide-memory-requires c κs = prepared-is (x (d c)) _ _ _ _ (board c) (stages (d c) (loaded c) .kernel) (stages (d c) (loaded c) .layout) (block c) (lent-passed (x (d c)) (loads (d c) (loaded c)))
 
 returns-2 : tie.Need-returns-2
 returns-2 c =
     let k = c .before in
-    c .decide-memory .ensures ∙ decision-is (x (d k)) _ _ _ _ (board k) (kernel-is (d k) (loaded k)) (layout-is (d k) (loaded k)) (block k) (loads (d k) (loaded k))
+    c .decide-memory .ensures ∙ decision-is (x (d k)) _ _ _ _ (board k) (stages (d k) (loaded k) .kernel) (stages (d k) (loaded k) .layout) (block k) (loads (d k) (loaded k))
 
 pub decide-spec : {M : Type 1} → statement M
 decide-spec =

@@ -3,8 +3,8 @@
 use mathlib.Core.Path.{_∙_}
 use Prim.Native.Nat.{_+_, _≤_}
 use native.Mathlib.Omega.{arith}
-use lib.ListN.{length}
 use borrow.Author.Needs.{needs}
+use lib.ListN.{length}
 use Rattle.header.specs.Header.{searchLimit, shortHeader}
 use Rattle.header.specs.HeaderLaws.{header-lowest}
 use Rattle.image.specs.JudgedLaws.{not-cut-off}

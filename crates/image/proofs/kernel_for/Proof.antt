@@ -1,7 +1,7 @@
 -- `image::kernel_for` meets its contract.
 -- Assumes nothing.
-use Rattle.image.specs.Judged.{kernelFor}
 use borrow.Author.Needs.{needs}
+use Rattle.image.specs.Judged.{kernelFor}
 use Rattle.image.proofs.kernel_for.Statement.{statement}
 use Rattle.image.proofs.kernel_for.Tie as tie
 

@@ -1,8 +1,8 @@
 -- `image::with_kernel` meets its contract.
 -- Assumes nothing.
 use mathlib.Core.Path.{sym, _∙_}
-use Rattle.image.specs.Judged.{withKernel}
 use borrow.Author.Needs.{needs}
+use Rattle.image.specs.Judge.{withKernel}
 use Rattle.image.proofs.with_kernel.Statement.{statement}
 use Rattle.image.proofs.with_kernel.Tie as tie
 

@@ -3,13 +3,14 @@
 use mathlib.Core.Path.{_≡_, ap, _∙_}
 use Prim.Native.Nat.{_-_, _≤_}
 use native.Mathlib.Omega.{arith}
+use borrow.Author.Needs.{needs}
 use lib.ListN.{replicate}
 use Rattle.laws.specs.Table.{table}
 use Rattle.laws.specs.TableLaws.{table-none, table-more}
+use Rattle.address.specs.Span.{noSpan}
+use Rattle.image.specs.Kernel.{extentNo}
 use Rattle.placement.specs.Free.{maxSpans}
-use Rattle.address.specs.Address.{noSpan}
-use Rattle.items.specs.LoadItems.{extentNo, extentsOf}
-use borrow.Author.Needs.{needs}
+use Rattle.items.specs.LoadItems.{extentsOf}
 use Rattle.items.proofs.extents.Statement.{statement}
 use Rattle.items.proofs.extents.Tie as tie
 

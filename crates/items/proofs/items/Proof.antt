@@ -3,11 +3,11 @@
 use mathlib.Core.Path.{_≡_}
 use Prim.Native.Nat.{_+_, _-_, _≤_}
 use native.Mathlib.Omega.{arith}
+use borrow.Author.Needs.{needs}
 use Rattle.laws.specs.Table.{table}
 use Rattle.laws.specs.TableLaws.{table-none, table-more}
 use Rattle.placement.specs.Order.{maxItems, noItem}
 use Rattle.items.specs.LoadItems.{loadItem, itemsOf}
-use borrow.Author.Needs.{needs}
 use Rattle.items.proofs.items.Statement.{statement}
 use Rattle.items.proofs.items.Tie as tie
 

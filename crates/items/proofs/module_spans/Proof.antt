@@ -3,13 +3,13 @@
 use mathlib.Core.Path.{_≡_, ap, _∙_}
 use Prim.Native.Nat.{_+_, _-_, _≤_}
 use native.Mathlib.Omega.{arith}
+use borrow.Author.Needs.{needs}
 use lib.ListN.{replicate}
 use Rattle.laws.specs.Table.{table}
 use Rattle.laws.specs.TableLaws.{table-none, table-more}
+use Rattle.address.specs.Span.{noSpan, spanNo}
 use Rattle.submission.specs.Format.{maxModules}
-use Rattle.address.specs.Address.{noSpan, spanNo}
 use Rattle.items.specs.LoadItems.{moduleSpans}
-use borrow.Author.Needs.{needs}
 use Rattle.items.proofs.module_spans.Statement.{statement}
 use Rattle.items.proofs.module_spans.Tie as tie
 

@@ -1,8 +1,8 @@
 -- `loader::load` meets its contract: the decision, and the writes of a load or none.
 -- Assumes nothing.
 use mathlib.Core.Path.{sym, _∙_}
-use Rattle.loader.specs.WriteLaws.{decision-loaded, memory-loaded, memory-refused}
 use borrow.Author.Needs.{needs}
+use Rattle.loader.specs.WriteLaws.{decision-loaded, memory-loaded, memory-refused}
 use Rattle.loader.proofs.load.Statement.{statement}
 use Rattle.loader.proofs.load.Tie as tie
 

@@ -6,18 +6,19 @@ use mathlib.Core.List.{List}
 use mathlib.Core.Logic.{⊎-elim}
 use Prim.Native.Nat.{ℕ, _+_, _-_, _≤_, _<_}
 use native.Mathlib.Omega.{arith}
+use borrow.Author.Tests.{lt-ltb, le-ltb}
+use borrow.Author.Needs.{needs}
 use lib.Dec.{ltb}
 use lib.ListN.{length}
-use borrow.Author.Tests.{lt-ltb, le-ltb}
 use Rattle.laws.specs.TestLaws.{lt-or-le}
 use Rattle.laws.specs.CheckLaws.{or-left, or-right}
-use Rattle.memory_map.specs.Pairs.{sizeBytes, minPairSize, sizeAt, tooSmall, pastEnd, nextOffset}
-use borrow.Author.Needs.{needs}
+use Rattle.memory_map.specs.Pairs.{sizeBytes, sizeAt, nextOffset}
+use Rattle.memory_map.specs.Map.{minPairSize, tooSmall, pastEnd}
 use Rattle.memory_map.proofs.broken.Statement.{statement}
 use Rattle.memory_map.proofs.broken.Tie as tie
 
 module _ (m : List ℕ) (at : ℕ) (h : at ≤ length m) where
-  -- the size field itself runs pastEnd the end
+  -- the size field itself runs past the end
   cut-off : length m - at < sizeBytes → true ≡ tooSmall m at || pastEnd m at
   unfolding pastEnd nextOffset
   cut-off l = sym (or-right (tooSmall m at) (pastEnd m at) (lt-ltb (length m) (nextOffset m at) (omega arith)))

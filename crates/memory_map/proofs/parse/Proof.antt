@@ -6,16 +6,17 @@ use mathlib.Core.List.{List}
 use Prim.Native.Nat.{ℕ, _+_, _-_, _≤_, _<_}
 use native.Mathlib.Numerals.{add-one}
 use native.Mathlib.Omega.{arith}
+use borrow.Author.Needs.{needs}
 use lib.ListN.{length, set}
 use Rattle.laws.specs.Table.{listed, table}
 use Rattle.laws.specs.TableLaws.{table-more}
 use Rattle.answer.specs.declared.Answer.the-variants.{Load}
 use Rattle.memory_map.specs.declared.Pair.{Pair}
 use Rattle.memory_map.specs.declared.MemMap.{MemMap}
-use Rattle.memory_map.specs.Pairs.{maxPairs, noPair}
-use Rattle.memory_map.specs.Pairs.{maxMap, minPairSize, sizeBytes, sizeAt, nextOffset, pairOffset, pairCount, pairAt, tooSmall, pastEnd, badMap, firstPairs, noMap, parsedMap}
-use Rattle.memory_map.specs.PairsLaws.{Whole, whole-zero, whole-more, whole-all, unbroken, map-good, empty-bad, long-bad, many-bad, broken-bad, parsed-bad, parsed-good}
-use borrow.Author.Needs.{needs}
+use Rattle.memory_map.specs.Map.{maxPairs, noPair, maxMap, minPairSize, pairCount, pairAt, tooSmall, pastEnd, badMap, firstPairs}
+use Rattle.memory_map.specs.Parse.{noMap, parsedMap}
+use Rattle.memory_map.specs.Pairs.{sizeBytes, sizeAt, nextOffset, pairOffset}
+use Rattle.memory_map.specs.PairsLaws.{Whole, whole-zero, whole-more, whole-all, unbroken, counted-good, empty-bad, long-bad, many-bad, broken-bad, parsed-bad, parsed-good}
 use Rattle.memory_map.proofs.parse.Statement.{statement}
 use Rattle.memory_map.proofs.parse.Tie as tie
 
@@ -32,7 +33,7 @@ unfolding pairOffset listed
 none-read m e h = record { inside = omega arith; few = omega arith; place = refl; read = ap (λ (p : MemMap). p .pairs) h; whole = whole-zero m }
 
 module _ (m : List ℕ) (pairs : List Pair) (n at : ℕ) (r : Reading m pairs n at) where
-  -- a pair begins pastEnd the last that has room, or is broken
+  -- a pair begins past the last that has room, or is broken
   too-many : at < length m → n ≡ maxPairs → badMap m ≡ true
   too-many l e = many-bad m (rw e at (r .whole)) (let h : pairOffset m n < length m = omega (arith, r .place) in rw e at h)
 
@@ -59,7 +60,7 @@ module _ (m : List ℕ) (pairs : List Pair) (n at : ℕ) (r : Reading m pairs n 
   unfolding firstPairs
   all-read z k l =
       let e : pairCount m ≡ n = whole-all m n (r .whole) (omega (arith, r .place)) in
-      let g : badMap m ≡ false = map-good m (record { some = omega arith; short = k; few = omega (arith, r .few); whole = rw e (r .whole) }) in
+      let g : badMap m ≡ false = counted-good m (record { some = omega arith; short = k; few = omega (arith, r .few); whole = rw e (r .whole) }) in
       rw (← parsed-good m g, e, r .read) refl
 
 abbrev Inv-loop : tie.InvT-loop

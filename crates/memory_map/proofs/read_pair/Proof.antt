@@ -1,8 +1,8 @@
 -- `memory_map::read_pair` meets its contract: each field is read where it stands.
 -- Assumes nothing.
 use mathlib.Core.Path.{refl}
-use Rattle.memory_map.specs.Pairs.{pairAt}
 use borrow.Author.Needs.{needs}
+use Rattle.memory_map.specs.Map.{pairAt}
 use Rattle.memory_map.proofs.read_pair.Statement.{statement}
 use Rattle.memory_map.proofs.read_pair.Tie as tie
 

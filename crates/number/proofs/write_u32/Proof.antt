@@ -1,7 +1,7 @@
 -- `number::write_u32` meets its contract: the array written is the number's four bytes.
 -- Assumes nothing.
-use Rattle.number.specs.Number.{numberBytes}
 use borrow.Author.Needs.{needs}
+use Rattle.number.specs.Number.{numberBytes}
 use Rattle.number.proofs.write_u32.Statement.{statement}
 use Rattle.number.proofs.write_u32.Tie as tie
 

@@ -2,13 +2,13 @@
 -- Assumes nothing.
 use mathlib.Core.Path.{_≡_, sym}
 use Prim.Native.Nat.{_-_, _≤_}
+use borrow.Author.Needs.{needs}
 use lib.ListN.{length, take}
 use lib.Seq.{take-all}
 use Rattle.buffer.specs.Patched.{patched}
 use Rattle.buffer.specs.PatchedLaws.{patched-nil, patched-past}
 use Rattle.number.specs.Number.{wordBytes}
 use Rattle.number.proofs.TurnLaws.{write-more}
-use borrow.Author.Needs.{needs}
 use Rattle.number.proofs.write_words.Statement.{statement}
 use Rattle.number.proofs.write_words.Tie as tie
 

@@ -1,7 +1,7 @@
 -- `report::write_line` meets its contract: the fields behind the word.
 -- Assumes nothing.
-use Rattle.report.specs.TextLaws.{wrote-behind}
 use borrow.Author.Needs.{needs}
+use Rattle.report.specs.TextLaws.{wrote-behind}
 use Rattle.report.proofs.write_line.Statement.{statement}
 use Rattle.report.proofs.write_line.Tie as tie
 

@@ -2,11 +2,11 @@
 -- Assumes nothing.
 use mathlib.Core.List.{_++_}
 use native.Mathlib.Omega.{arith}
+use borrow.Author.Needs.{needs}
 use Rattle.report.specs.Text.{decimalText}
 use Rattle.report.specs.TextLaws.{decimal-short, wrote-nothing, wrote-behind}
 use Rattle.report.specs.Report.{moduleLabel}
 use Rattle.report.specs.ReportLaws.{module-none, module-line}
-use borrow.Author.Needs.{needs}
 use Rattle.report.proofs.write_module.Statement.{statement}
 use Rattle.report.proofs.write_module.Tie as tie
 

@@ -3,15 +3,15 @@
 use mathlib.Core.Path.{_≡_, _∙_}
 use Prim.Native.Nat.{_-_, _≤_}
 use native.Mathlib.Omega.{arith}
+use borrow.Author.Needs.{needs}
 use lib.ListN.{length}
+use Rattle.submission.specs.Format.{maxModules}
 use Rattle.viertompu.specs.Joined.{joined}
 use Rattle.viertompu.specs.JoinedLaws.{joined-short}
-use Rattle.submission.specs.Format.{maxModules}
 use Rattle.report.specs.Text.{Wrote}
 use Rattle.report.specs.TextLaws.{wrote-nothing, wrote-row}
 use Rattle.report.specs.Report.{moduleLine, maxLineText}
 use Rattle.report.specs.ReportLaws.{module-short}
-use borrow.Author.Needs.{needs}
 use Rattle.report.proofs.write_modules.Statement.{statement}
 use Rattle.report.proofs.write_modules.Tie as tie
 

@@ -2,13 +2,13 @@
 -- Assumes nothing.
 use Prim.Native.Nat.{_+_, _*_, _≤_}
 use native.Mathlib.Omega.{arith}
-use Rattle.viertompu.specs.JoinedLaws.{joined-short}
+use borrow.Author.Needs.{needs}
 use Rattle.submission.specs.Format.{maxModules}
-use Rattle.image.specs.Judged.{maxSegments}
+use Rattle.image.specs.Kernel.{maxSegments}
+use Rattle.viertompu.specs.JoinedLaws.{joined-short}
 use Rattle.report.specs.Report.{maxLineText, numberWord, itemWord, segmentLine, moduleLine}
 use Rattle.report.specs.ReportLaws.{segment-short, module-short, refusal-short, report-of-refusal, report-short}
 use Rattle.report.proofs.TurnLaws.{load-written}
-use borrow.Author.Needs.{needs}
 use Rattle.report.proofs.write_report.Statement.{statement}
 use Rattle.report.proofs.write_report.Tie as tie
 

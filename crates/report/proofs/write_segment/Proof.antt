@@ -1,8 +1,8 @@
 -- `report::write_segment` meets its contract: no line, or the segment's.
 -- Assumes nothing.
+use borrow.Author.Needs.{needs}
 use Rattle.report.specs.TextLaws.{wrote-nothing}
 use Rattle.report.specs.ReportLaws.{segment-none, segment-line}
-use borrow.Author.Needs.{needs}
 use Rattle.report.proofs.write_segment.Statement.{statement}
 use Rattle.report.proofs.write_segment.Tie as tie
 

@@ -3,15 +3,15 @@
 use mathlib.Core.Path.{_≡_, _∙_}
 use Prim.Native.Nat.{_-_, _≤_}
 use native.Mathlib.Omega.{arith}
+use borrow.Author.Needs.{needs}
 use lib.ListN.{length}
+use Rattle.image.specs.Kernel.{maxSegments}
 use Rattle.viertompu.specs.Joined.{joined}
 use Rattle.viertompu.specs.JoinedLaws.{joined-short}
-use Rattle.image.specs.Judged.{maxSegments}
 use Rattle.report.specs.Text.{Wrote}
 use Rattle.report.specs.TextLaws.{wrote-nothing, wrote-row}
 use Rattle.report.specs.Report.{segmentLine, maxLineText}
 use Rattle.report.specs.ReportLaws.{segment-short}
-use borrow.Author.Needs.{needs}
 use Rattle.report.proofs.write_segments.Statement.{statement}
 use Rattle.report.proofs.write_segments.Tie as tie
 

@@ -1,8 +1,8 @@
 -- `review::main` is safe: no more of the text is printed than there is.
 -- Assumes nothing.
 use native.Mathlib.Omega.{arith}
-use lib.ListN.{length-take}
 use borrow.Author.Needs.{needs}
+use lib.ListN.{length-take}
 use Rattle.review.proofs.main.Statement.{statement}
 use Rattle.review.proofs.main.Tie as tie
 

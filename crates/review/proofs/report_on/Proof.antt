@@ -1,10 +1,10 @@
 -- `review::report_on` meets its contract: the plan of a load on the board, reported.
 -- Assumes nothing.
 use Prim.Native.Nat.{ℕ}
+use borrow.Author.Needs.{needs}
 use lib.ListN.{length-replicate}
 use Rattle.review.specs.Review.{windowLength}
 use Rattle.review.proofs.ReviewLaws.{map-is, reviewed}
-use borrow.Author.Needs.{needs}
 use Rattle.review.proofs.report_on.Statement.{statement}
 use Rattle.review.proofs.report_on.Tie as tie
 

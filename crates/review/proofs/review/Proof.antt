@@ -1,8 +1,8 @@
 -- `review::review` meets its contract: the message where too much was read, else the report.
 -- Assumes nothing.
 use native.Mathlib.Omega.{arith}
-use lib.ListN.{length-take}
 use borrow.Author.Needs.{needs}
+use lib.ListN.{length-take}
 use Rattle.review.proofs.ReviewLaws.{printed-over, printed-within, take-wrote}
 use Rattle.review.proofs.review.Statement.{statement}
 use Rattle.review.proofs.review.Tie as tie

@@ -7,8 +7,8 @@ use native.Mathlib.Omega.{arith}
 use borrow.Author.Needs.{needs}
 use lib.ListN.{length, length-map}
 use Rattle.laws.specs.TestLaws.{any-zero}
+use Rattle.memory_map.specs.Map.{maxPairs}
 use Rattle.usable.specs.Usable.{addressSpace}
-use Rattle.memory_map.specs.Pairs.{maxPairs}
 use Rattle.usable.proofs.ScanLaws.{Scanned, usable-covered, usable-missed, usable-barred, usable-above, usable-end}
 use Rattle.usable.proofs.is_usable.Statement.{statement}
 use Rattle.usable.proofs.is_usable.Tie as tie

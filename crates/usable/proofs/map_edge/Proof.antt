@@ -7,7 +7,7 @@ use borrow.Author.Needs.{needs}
 use lib.ListN.{length, length-map}
 use Rattle.edge.specs.Edge.{spanEdge, edgeUpTo}
 use Rattle.edge.specs.EdgeLaws.{edge-none, edge-more}
-use Rattle.memory_map.specs.Pairs.{maxPairs, pairNo}
+use Rattle.memory_map.specs.Map.{maxPairs, pairNo}
 use Rattle.usable.proofs.ScanLaws.{edge-end}
 use Rattle.usable.proofs.map_edge.Statement.{statement}
 use Rattle.usable.proofs.map_edge.Tie as tie

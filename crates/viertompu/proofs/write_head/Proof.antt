@@ -1,8 +1,8 @@
 -- `viertompu::write_head` meets its contract: eight stores in a row are one write.
 -- Assumes nothing.
+use borrow.Author.Needs.{needs}
 use Rattle.viertompu.specs.Words.{headWords}
 use Rattle.viertompu.specs.JoinedLaws.{stored}
-use borrow.Author.Needs.{needs}
 use Rattle.viertompu.proofs.write_head.Statement.{statement}
 use Rattle.viertompu.proofs.write_head.Tie as tie
 

@@ -3,13 +3,13 @@
 use mathlib.Core.Path.{_≡_, sym, ap, _∙_}
 use Prim.Native.Nat.{ℕ, _-_, _≤_}
 use native.Mathlib.Omega.{arith}
+use borrow.Author.Needs.{needs}
 use Rattle.buffer.specs.Patched.{patched}
 use Rattle.buffer.specs.PatchedLaws.{patched-nil}
 use Rattle.submission.specs.Format.{maxModules}
 use Rattle.viertompu.specs.Words.{firstModule, moduleWords}
 use Rattle.viertompu.specs.Joined.{joined}
 use Rattle.viertompu.proofs.TurnLaws.{module-written}
-use borrow.Author.Needs.{needs}
 use Rattle.viertompu.proofs.write_modules.Statement.{statement}
 use Rattle.viertompu.proofs.write_modules.Tie as tie
 

@@ -1,7 +1,7 @@
 -- `viertompu::write_plan` meets its contract: head, segments and modules, one behind the other, over zeros.
 -- Assumes nothing.
-use Rattle.viertompu.proofs.TurnLaws.{plan-written}
 use borrow.Author.Needs.{needs}
+use Rattle.viertompu.proofs.TurnLaws.{plan-written}
 use Rattle.viertompu.proofs.write_plan.Statement.{statement}
 use Rattle.viertompu.proofs.write_plan.Tie as tie
 

@@ -3,13 +3,13 @@
 use mathlib.Core.Path.{_≡_, sym, ap, _∙_}
 use Prim.Native.Nat.{ℕ, _-_, _≤_}
 use native.Mathlib.Omega.{arith}
+use borrow.Author.Needs.{needs}
 use Rattle.buffer.specs.Patched.{patched}
 use Rattle.buffer.specs.PatchedLaws.{patched-nil}
-use Rattle.image.specs.Judged.{maxSegments}
+use Rattle.image.specs.Kernel.{maxSegments}
 use Rattle.viertompu.specs.Words.{firstSegment, segmentWords}
 use Rattle.viertompu.specs.Joined.{joined}
 use Rattle.viertompu.proofs.TurnLaws.{segment-written}
-use borrow.Author.Needs.{needs}
 use Rattle.viertompu.proofs.write_segments.Statement.{statement}
 use Rattle.viertompu.proofs.write_segments.Tie as tie
 

@@ -1,13 +1,14 @@
--- `information::size::block_length` meets its contract. The loop's invariant: the size has the strings passed.
+-- `block::size::block_length` meets its contract. The loop's invariant: the size has the strings passed.
 -- Assumes nothing.
 use mathlib.Core.Path.{_≡_, ap}
 use Prim.Native.Nat.{ℕ, _+_, _-_, _≤_, _<_, _^_}
 use native.Mathlib.Omega.{arith}
-use Rattle.laws.specs.Table.{listed}
-use Rattle.submission.specs.Format.{moduleNo}
-use Rattle.block.specs.Block.{stringsOffset, textSize, textsSize, stringLengths}
-use Rattle.block.specs.TextLaws.{block-length, strings-more, strings-room}
 use borrow.Author.Needs.{needs}
+use Rattle.laws.specs.Table.{listed}
+use Rattle.submission.specs.Layout.{moduleNo}
+use Rattle.block.specs.Block.{stringsOffset, textsSize, stringLengths}
+use Rattle.block.specs.TextSize.{textSize}
+use Rattle.block.specs.TextLaws.{block-length, strings-more, strings-room}
 use Rattle.block.proofs.size.block_length.Statement.{statement}
 use Rattle.block.proofs.size.block_length.Tie as tie
 

@@ -1,4 +1,4 @@
--- `information::size::text_size` meets its contract: both branches are those of `textSize`.
+-- `block::size::text_size` meets its contract: both branches are those of `textSize`.
 -- Assumes nothing.
 use native.Mathlib.Omega.{arith}
 use Rattle.block.specs.TextLaws.{size-none, size-some}

@@ -1,7 +1,7 @@
--- `information::write::flags` meets its contract.
+-- `block::write::flags` meets its contract.
 -- Assumes nothing.
-use Rattle.block.specs.TextLaws.{flags-some}
 use borrow.Author.Needs.{needs}
+use Rattle.block.specs.TextLaws.{flags-some}
 use Rattle.block.proofs.write.flags.Statement.{statement}
 use Rattle.block.proofs.write.flags.Tie as tie
 

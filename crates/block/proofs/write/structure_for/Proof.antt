@@ -1,10 +1,10 @@
--- `information::write::structure_for` meets its contract: each field is that of `structureFor`.
+-- `block::write::structure_for` meets its contract: each field is that of `structureFor`.
 -- Assumes nothing.
 use mathlib.Core.Path.{refl}
 use native.Mathlib.Omega.{arith}
+use borrow.Author.Needs.{needs}
 use Rattle.block.specs.Block.{structureFor}
 use Rattle.block.specs.TextLaws.{size-low}
-use borrow.Author.Needs.{needs}
 use Rattle.block.proofs.write.structure_for.Statement.{statement}
 use Rattle.block.proofs.write.structure_for.Tie as tie
 

@@ -1,4 +1,4 @@
--- `information::write::structure_words` meets its contract: the words are those of the definition, one by one.
+-- `block::write::structure_words` meets its contract: the words are those of the definition, one by one.
 -- Assumes nothing.
 use mathlib.Core.Path.{refl}
 use Rattle.block.specs.Block.{structureWords}

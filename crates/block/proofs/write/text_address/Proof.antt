@@ -1,7 +1,7 @@
--- `information::write::text_address` meets its contract: both branches are those of `addressOf`.
+-- `block::write::text_address` meets its contract: both branches are those of `addressOf`.
 -- Assumes nothing.
-use Rattle.block.specs.TextLaws.{address-none, address-some}
 use borrow.Author.Needs.{needs}
+use Rattle.block.specs.TextLaws.{address-none, address-some}
 use Rattle.block.proofs.write.text_address.Statement.{statement}
 use Rattle.block.proofs.write.text_address.Tie as tie
 

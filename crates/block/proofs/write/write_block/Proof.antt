@@ -1,13 +1,13 @@
--- `information::write::write_block` meets its contract: the parts stand behind the tables.
+-- `block::write::write_block` meets its contract: the parts stand behind the tables.
 -- Assumes nothing.
 use mathlib.Core.Path.{ap}
 use Prim.Native.Nat.{ℕ, _+_, _≤_, _^_}
 use native.Mathlib.Omega.{arith}
+use borrow.Author.Needs.{needs}
 use lib.ListN.{length}
 use Rattle.block.specs.Block.{stringsOffset, textsSize, stringLengths}
 use Rattle.block.specs.WritingLaws.{room-low, room-inside}
 use Rattle.block.proofs.TurnLaws.{block-written}
-use borrow.Author.Needs.{needs}
 use Rattle.block.proofs.write.write_block.Statement.{statement}
 use Rattle.block.proofs.write.write_block.Tie as tie
 

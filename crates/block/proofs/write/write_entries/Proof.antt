@@ -1,20 +1,21 @@
--- `information::write::write_entries` meets its contract. The loop's invariant: the entries passed are written, and nothing else.
+-- `block::write::write_entries` meets its contract. The loop's invariant: the entries passed are written, and nothing else.
 -- Assumes nothing.
 use mathlib.Core.Path.{_≡_, ap, sym, _∙_}
 use Prim.Native.Nat.{ℕ, _+_, _-_, _≤_, _<_, _^_}
 use native.Mathlib.Omega.{arith}
+use borrow.Author.Needs.{needs}
 use lib.ListN.{length}
-use Rattle.number.specs.Number.{wordBytes}
+use Rattle.laws.specs.Table.{listed}
 use Rattle.buffer.specs.Patched.{patched}
 use Rattle.buffer.specs.PatchedLaws.{patched-nil}
-use Rattle.laws.specs.Table.{listed}
-use Rattle.address.specs.Address.{spanNo}
-use Rattle.submission.specs.Format.{moduleNo}
-use Rattle.block.specs.Block.{textSize, textsSize, entries, stringLengths}
+use Rattle.number.specs.Number.{wordBytes}
+use Rattle.address.specs.Span.{spanNo}
+use Rattle.submission.specs.Layout.{moduleNo}
+use Rattle.block.specs.Block.{textsSize, entries, stringLengths}
+use Rattle.block.specs.TextSize.{textSize}
 use Rattle.block.specs.TextLaws.{size-low, strings-more, strings-room}
 use Rattle.block.specs.Writing.{entriesOf}
 use Rattle.block.proofs.TurnLaws.{entry-written}
-use borrow.Author.Needs.{needs}
 use Rattle.block.proofs.write.write_entries.Statement.{statement}
 use Rattle.block.proofs.write.write_entries.Tie as tie
 

@@ -1,13 +1,13 @@
--- `information::write::write_parts` meets its contract: the parts stand one behind the other.
+-- `block::write::write_parts` meets its contract: the parts stand one behind the other.
 -- Assumes nothing.
 use mathlib.Core.Path.{ap}
 use Prim.Native.Nat.{ℕ, _+_}
 use native.Mathlib.Omega.{arith}
+use borrow.Author.Needs.{needs}
 use lib.ListN.{length}
 use Rattle.block.specs.Block.{loaderName}
 use Rattle.block.specs.TextLaws.{size-low}
 use Rattle.block.proofs.TurnLaws.{parts-written}
-use borrow.Author.Needs.{needs}
 use Rattle.block.proofs.write.write_parts.Statement.{statement}
 use Rattle.block.proofs.write.write_parts.Tie as tie
 

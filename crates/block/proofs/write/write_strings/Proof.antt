@@ -1,18 +1,19 @@
--- `information::write::write_strings` meets its contract. The loop's invariant: the strings passed are written, and nothing else.
+-- `block::write::write_strings` meets its contract. The loop's invariant: the strings passed are written, and nothing else.
 -- Assumes nothing.
 use mathlib.Core.Path.{_≡_, ap, sym, _∙_}
 use Prim.Native.Nat.{ℕ, _+_, _-_, _≤_}
 use native.Mathlib.Omega.{arith}
+use borrow.Author.Needs.{needs}
 use lib.ListN.{length, length-take, length-drop}
+use Rattle.laws.specs.Table.{listed}
 use Rattle.buffer.specs.Patched.{patched}
 use Rattle.buffer.specs.PatchedLaws.{patched-nil}
-use Rattle.laws.specs.Table.{listed}
-use Rattle.submission.specs.Format.{moduleNo}
-use Rattle.block.specs.Block.{textSize, textsSize, texts, stringLengths}
+use Rattle.submission.specs.Layout.{moduleNo}
+use Rattle.block.specs.Block.{textsSize, texts, stringLengths}
+use Rattle.block.specs.TextSize.{textSize}
 use Rattle.block.specs.TextLaws.{size-low, strings-more, strings-room}
 use Rattle.block.specs.Writing.{stringsOf}
 use Rattle.block.proofs.TurnLaws.{string-written}
-use borrow.Author.Needs.{needs}
 use Rattle.block.proofs.write.write_strings.Statement.{statement}
 use Rattle.block.proofs.write.write_strings.Tie as tie
 

@@ -1,7 +1,7 @@
--- `information::write::write_tables` meets its contract: the entries stand behind the structure.
+-- `block::write::write_tables` meets its contract: the entries stand behind the structure.
 -- Assumes nothing.
-use Rattle.block.proofs.TurnLaws.{tables-written}
 use borrow.Author.Needs.{needs}
+use Rattle.block.proofs.TurnLaws.{tables-written}
 use Rattle.block.proofs.write.write_tables.Statement.{statement}
 use Rattle.block.proofs.write.write_tables.Tie as tie
 

@@ -1,10 +1,10 @@
--- `information::write::write_text` meets its contract: the text, and its zero behind it.
+-- `block::write::write_text` meets its contract: the text, and its zero behind it.
 -- Assumes nothing.
 use mathlib.Core.Path.{sym}
+use borrow.Author.Needs.{needs}
 use Rattle.buffer.specs.PatchedLaws.{patched-nil}
 use Rattle.block.specs.TextLaws.{text-none}
 use Rattle.block.proofs.TurnLaws.{text-written}
-use borrow.Author.Needs.{needs}
 use Rattle.block.proofs.write.write_text.Statement.{statement}
 use Rattle.block.proofs.write.write_text.Tie as tie
 

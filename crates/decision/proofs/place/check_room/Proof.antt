@@ -1,10 +1,10 @@
 -- `decision::place::check_room` meets its contract: the first test that holds.
 -- Assumes nothing.
-use Rattle.laws.specs.CheckLaws.{chain}
-use Rattle.decision.specs.Decided.{roomChecks}
 use Prim.Native.Nat.{_+_, _<_, _≤_}
 use native.Mathlib.Omega.{arith}
 use borrow.Author.Needs.{needs}
+use Rattle.laws.specs.CheckLaws.{chain}
+use Rattle.decision.specs.Decided.{roomChecks}
 use Rattle.decision.proofs.place.check_room.Statement.{statement}
 use Rattle.decision.proofs.place.check_room.Tie as tie
 

@@ -4,13 +4,13 @@ use mathlib.Core.Path.{_≡_, sym, ap, _∙_}
 use mathlib.Core.Bool.{true}
 use native.Mathlib.Omega.{arith}
 use borrow.Author.Tests.{not-true, not-false}
+use borrow.Author.Needs.{needs}
 use Rattle.laws.specs.Checks.{firstOf}
 use Rattle.answer.specs.Answer.{isLoad}
 use Rattle.answer.specs.declared.Answer.the-variants.{Load}
 use Rattle.decision.specs.Decided.{kernelOpen, roomChecks, placedBy}
 use Rattle.decision.specs.PlacedLaws.{items-ready, span-below}
 use Rattle.decision.specs.StageLaws.{placed-is, room-is, all-placed, decided-closed, decided-no-room, decided-load}
-use borrow.Author.Needs.{needs}
 use Rattle.decision.proofs.place.decide_memory.Statement.{statement}
 use Rattle.decision.proofs.place.decide_memory.Tie as tie
 

@@ -6,15 +6,15 @@ use Prim.Native.Nat.{ℕ, _-_, _≤_, _<_}
 use native.Mathlib.Omega.{arith}
 use borrow.Author.Count.{below-more}
 use borrow.Author.Tests.{not-true, not-false}
+use borrow.Author.Needs.{needs}
 use Rattle.laws.specs.Tests.{allFrom}
 use Rattle.laws.specs.TestLaws.{all-intro, all-not}
 use Rattle.address.specs.declared.Span.{Span}
 use Rattle.image.specs.declared.Kernel.{Kernel}
+use Rattle.image.specs.Kernel.{extentNo}
 use Rattle.board.specs.declared.Board.{Board}
 use Rattle.board.specs.Open.{isOpen}
-use Rattle.items.specs.LoadItems.{extentNo}
 use Rattle.decision.specs.Decided.{extentOpen, kernelOpen}
-use borrow.Author.Needs.{needs}
 use Rattle.decision.proofs.place.kernel_open.Statement.{statement}
 use Rattle.decision.proofs.place.kernel_open.Tie as tie
 

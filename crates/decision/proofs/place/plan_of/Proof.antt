@@ -1,7 +1,7 @@
 -- `decision::place::plan_of` meets its contract: field by field.
 -- Assumes nothing.
-use Rattle.decision.specs.Decided.{planOf}
 use borrow.Author.Needs.{needs}
+use Rattle.decision.specs.Decided.{planOf}
 use Rattle.decision.proofs.place.plan_of.Statement.{statement}
 use Rattle.decision.proofs.place.plan_of.Tie as tie
 

@@ -1,7 +1,7 @@
 -- `decision::place::refuse` meets its contract: the plan made is all zeros.
 -- Assumes nothing.
-use Rattle.decision.specs.Decided.{noPlan}
 use borrow.Author.Needs.{needs}
+use Rattle.decision.specs.Plan.{noPlan}
 use Rattle.decision.proofs.place.refuse.Statement.{statement}
 use Rattle.decision.proofs.place.refuse.Tie as tie
 

@@ -1,8 +1,8 @@
 -- `image::check::check_load` meets its contract: its tests are those of `loadChecks`, in order.
 -- Assumes nothing.
+use borrow.Author.Needs.{needs}
 use Rattle.laws.specs.CheckLaws.{chain}
 use Rattle.image.specs.Judged.{loadChecks}
-use borrow.Author.Needs.{needs}
 use Rattle.image.proofs.TestLaws.{told}
 use Rattle.image.proofs.check.check_load.Statement.{statement}
 use Rattle.image.proofs.check.check_load.Tie as tie

@@ -3,9 +3,9 @@
 use mathlib.Core.Path.{sym}
 use Prim.Native.Nat.{_+_, _≤_, _<_}
 use native.Mathlib.Omega.{arith}
+use borrow.Author.Needs.{needs}
 use Rattle.header.specs.Header.{searchLimit}
 use Rattle.image.specs.Load.{fullHeader}
-use borrow.Author.Needs.{needs}
 use Rattle.image.proofs.TestLaws.{tests}
 use Rattle.image.proofs.check.cut_off.Statement.{statement}
 use Rattle.image.proofs.check.cut_off.Tie as tie

@@ -1,8 +1,8 @@
 -- `image::load::load_length` meets its contract: both branches are those of `loadLength`.
 -- Assumes nothing.
 use mathlib.Core.Path.{_∙_}
-use Rattle.image.specs.Load.{loadLength}
 use borrow.Author.Needs.{needs}
+use Rattle.image.specs.Load.{loadLength}
 use Rattle.image.proofs.TestLaws.{tests}
 use Rattle.image.proofs.load.load_length.Statement.{statement}
 use Rattle.image.proofs.load.load_length.Tie as tie

@@ -1,7 +1,7 @@
 -- `image::load::read_fields` meets its contract: each field is the number at its place.
 -- Assumes nothing.
-use Rattle.image.specs.Load.{fieldsAt}
 use borrow.Author.Needs.{needs}
+use Rattle.image.specs.Load.{fieldsAt}
 use Rattle.image.proofs.load.read_fields.Statement.{statement}
 use Rattle.image.proofs.load.read_fields.Tie as tie
 

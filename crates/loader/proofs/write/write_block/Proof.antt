@@ -1,7 +1,7 @@
 -- `loader::write::write_block` meets its contract: the block's parts, as they are read.
 -- Assumes nothing.
-use Rattle.loader.proofs.TurnLaws.{block-room, block-written}
 use borrow.Author.Needs.{needs}
+use Rattle.loader.proofs.TurnLaws.{block-room, block-written}
 use Rattle.loader.proofs.write.write_block.Statement.{statement}
 use Rattle.loader.proofs.write.write_block.Tie as tie
 

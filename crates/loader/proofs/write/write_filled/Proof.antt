@@ -1,9 +1,9 @@
 -- `loader::write::write_filled` meets its contract: two writes, one behind the other, are one.
 -- Assumes nothing.
 use mathlib.Core.Path.{sym}
+use borrow.Author.Needs.{needs}
 use Rattle.buffer.specs.PatchedLaws.{patched-past}
 use Rattle.loader.proofs.TurnLaws.{filled}
-use borrow.Author.Needs.{needs}
 use Rattle.loader.proofs.write.write_filled.Statement.{statement}
 use Rattle.loader.proofs.write.write_filled.Tie as tie
 

@@ -1,12 +1,13 @@
 -- `loader::write::write_load` meets its contract: the three writers together make the writes of a load.
 -- Assumes nothing.
 use mathlib.Core.Path.{_≡_, ap, _∙_}
+use borrow.Author.Needs.{needs}
 use lib.ListN.{length}
 use Rattle.buffer.specs.WritesLaws.{length-written}
-use Rattle.decision.specs.Lent.{Lent, layoutIn}
+use Rattle.decision.specs.Lent.{Lent}
+use Rattle.decision.specs.Read.{layoutIn}
 use Rattle.loader.specs.LoadLaws.{Loads, loads}
 use Rattle.loader.specs.WriteLaws.{layout-read, few-segments, few-modules, block-ready, all-written}
-use borrow.Author.Needs.{needs}
 use Rattle.loader.proofs.write.write_load.Statement.{statement}
 use Rattle.loader.proofs.write.write_load.Tie as tie
 

@@ -3,12 +3,12 @@
 use mathlib.Core.Path.{_≡_, refl, ap, _∙_}
 use Prim.Native.Nat.{ℕ, _-_, _≤_}
 use native.Mathlib.Omega.{arith}
+use borrow.Author.Needs.{needs}
 use lib.ListN.{length}
 use Rattle.laws.specs.Table.{listed}
 use Rattle.buffer.specs.Writes.{written}
 use Rattle.loader.specs.Memory.{moduleWrite}
 use Rattle.loader.proofs.TurnLaws.{none-written, module-written, same-size}
-use borrow.Author.Needs.{needs}
 use Rattle.loader.proofs.write.write_modules.Statement.{statement}
 use Rattle.loader.proofs.write.write_modules.Tie as tie
 

@@ -1,7 +1,7 @@
 -- `loader::write::write_segment` meets its contract: the load bytes, and the zeros behind them.
 -- Assumes nothing.
-use Rattle.loader.proofs.TurnLaws.{segment-written}
 use borrow.Author.Needs.{needs}
+use Rattle.loader.proofs.TurnLaws.{segment-written}
 use Rattle.loader.proofs.write.write_segment.Statement.{statement}
 use Rattle.loader.proofs.write.write_segment.Tie as tie
 

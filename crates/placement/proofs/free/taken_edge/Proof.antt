@@ -5,9 +5,9 @@ use Prim.Native.Nat.{_≤_, _-_}
 use native.Mathlib.Omega.{arith}
 use borrow.Author.Needs.{needs}
 use lib.ListN.{length, length-map}
+use Rattle.address.specs.Span.{spanNo}
 use Rattle.edge.specs.Edge.{spanEdge, edgeUpTo}
 use Rattle.edge.specs.EdgeLaws.{edge-none, edge-more}
-use Rattle.address.specs.Address.{spanNo}
 use Rattle.placement.specs.Free.{maxSpans}
 use Rattle.placement.proofs.TakenLaws.{edge-end}
 use Rattle.placement.proofs.free.taken_edge.Statement.{statement}

@@ -4,10 +4,10 @@ use mathlib.Core.Path.{_≡_}
 use Prim.Native.Nat.{_+_, _-_, _≤_}
 use native.Mathlib.Numerals.{add-one}
 use native.Mathlib.Omega.{arith}
+use borrow.Author.Needs.{needs}
 use lib.ListN.{drop}
 use Rattle.report.specs.Text.{leadingZeros, decimalLength}
 use Rattle.report.proofs.TurnLaws.{lead-more, lead-stop, lead-last}
-use borrow.Author.Needs.{needs}
 use Rattle.report.proofs.digits.leading.Statement.{statement}
 use Rattle.report.proofs.digits.leading.Tie as tie
 

@@ -5,10 +5,10 @@ use mathlib.Core.List.{_++_}
 use Prim.Native.Nat.{_+_, _-_, _≤_}
 use native.Mathlib.Nat.{mod-lt}
 use native.Mathlib.Omega.{arith}
+use borrow.Author.Needs.{needs}
 use lib.ListN.{length, take, drop, length-set}
 use Rattle.report.specs.Text.{digitsOf, decimalLength}
 use Rattle.report.proofs.TurnLaws.{spelled-none, spelled-more, spelled-all}
-use borrow.Author.Needs.{needs}
 use Rattle.report.proofs.digits.spell.Statement.{statement}
 use Rattle.report.proofs.digits.spell.Tie as tie
 

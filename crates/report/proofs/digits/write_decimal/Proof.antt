@@ -1,8 +1,8 @@
 -- `report::digits::write_decimal` meets its contract: the digits behind the zeros in front.
 -- Assumes nothing.
 use mathlib.Core.Path.{refl}
-use Rattle.report.proofs.TurnLaws.{decimal-written}
 use borrow.Author.Needs.{needs}
+use Rattle.report.proofs.TurnLaws.{decimal-written}
 use Rattle.report.proofs.digits.write_decimal.Statement.{statement}
 use Rattle.report.proofs.digits.write_decimal.Tie as tie
 

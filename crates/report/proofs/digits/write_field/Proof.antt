@@ -2,10 +2,10 @@
 -- Assumes nothing.
 use mathlib.Core.Path.{_≡_, sym}
 use native.Mathlib.Omega.{arith}
+use borrow.Author.Needs.{needs}
 use lib.ListN.{length, take}
 use lib.Seq.{length-take-le}
 use Rattle.report.proofs.TurnLaws.{field-written}
-use borrow.Author.Needs.{needs}
 use Rattle.report.proofs.digits.write_field.Statement.{statement}
 use Rattle.report.proofs.digits.write_field.Tie as tie
 

@@ -4,12 +4,12 @@ use mathlib.Core.Path.{_≡_, _∙_}
 use mathlib.Core.List.{List, [], _∷_}
 use Prim.Native.Nat.{ℕ, _*_, _-_, _≤_}
 use native.Mathlib.Omega.{arith}
+use borrow.Author.Needs.{needs}
 use lib.ListN.{length, getD}
 use Rattle.viertompu.specs.Joined.{joined}
 use Rattle.viertompu.specs.JoinedLaws.{length-joined}
 use Rattle.report.specs.Text.{Wrote, newline, fieldText, fieldsText}
 use Rattle.report.specs.TextLaws.{length-field, wrote-nothing, wrote-behind, wrote-row}
-use borrow.Author.Needs.{needs}
 use Rattle.report.proofs.digits.write_fields.Statement.{statement}
 use Rattle.report.proofs.digits.write_fields.Tie as tie
 

@@ -1,7 +1,7 @@
 -- `submission::read::no_layout` meets its contract: it is the definition.
 -- Assumes nothing.
 use mathlib.Core.Path.{refl}
-use Rattle.submission.specs.Format.{noLayout}
+use Rattle.submission.specs.Parse.{noLayout}
 use Rattle.submission.proofs.read.no_layout.Statement.{statement}
 use Rattle.submission.proofs.read.no_layout.Tie as tie
 

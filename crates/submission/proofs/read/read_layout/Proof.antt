@@ -7,7 +7,9 @@ use Prim.Native.Nat.{ℕ, _+_, _*_, _-_, _^_, _≤_}
 use native.Mathlib.Omega.{arith}
 use borrow.Author.Needs.{needs}
 use Rattle.laws.specs.Table.{listed}
-use Rattle.submission.specs.Format.{moduleCount, imageLength, lineLength, entryOffset, dataStart, moduleTable, layoutOf, noLayout}
+use Rattle.submission.specs.Format.{moduleCount, imageLength, lineLength, entryOffset, dataStart}
+use Rattle.submission.specs.Layout.{moduleTable, layoutOf}
+use Rattle.submission.specs.Parse.{noLayout}
 use Rattle.submission.specs.declared.Module.{Module}
 use Rattle.submission.specs.declared.Layout.{Layout}
 use Rattle.submission.proofs.TurnLaws.{modules-more, next-data}

@@ -9,7 +9,8 @@ use borrow.Author.Tests.{not-true, not-false}
 use borrow.Author.Needs.{needs}
 use Rattle.laws.specs.Tests.{allFrom}
 use Rattle.submission.specs.Scan.{hasZero}
-use Rattle.submission.specs.Format.{moduleCount, lineLength, linePart, layoutOf, bytesOf}
+use Rattle.submission.specs.Format.{moduleCount, lineLength}
+use Rattle.submission.specs.Layout.{linePart, layoutOf, bytesOf}
 use Rattle.submission.specs.Rules.{entryHolds}
 use Rattle.submission.specs.declared.Part.{Part}
 use Rattle.submission.specs.declared.Layout.{Layout}

@@ -5,12 +5,13 @@ use mathlib.Core.Bool.{Bool, true, not}
 use mathlib.Core.List.{List}
 use Prim.Native.Nat.{ℕ, _-_, _≤_, _<_}
 use native.Mathlib.Omega.{arith}
-use lib.ListN.{getD}
 use borrow.Author.Needs.{needs}
+use lib.ListN.{getD}
 use Rattle.laws.specs.Tests.{allFrom}
 use Rattle.laws.specs.TestLaws.{all-not, all-zero}
 use Rattle.submission.specs.Scan.{hasZero}
-use Rattle.submission.specs.Format.{moduleCount, moduleOf, maxModules, noModule, layoutOf, bytesOf}
+use Rattle.submission.specs.Format.{moduleCount, maxModules}
+use Rattle.submission.specs.Layout.{moduleOf, noModule, layoutOf, bytesOf}
 use Rattle.submission.specs.FormatLaws.{module-at}
 use Rattle.submission.specs.Rules.{stringHolds}
 use Rattle.submission.specs.declared.Module.{Module}

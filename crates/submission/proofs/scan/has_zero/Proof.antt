@@ -3,8 +3,8 @@
 use mathlib.Core.Path.{_≡_, refl}
 use Prim.Native.Nat.{_-_, _≤_}
 use native.Mathlib.Omega.{arith}
-use lib.ListN.{length, drop}
 use borrow.Author.Needs.{needs}
+use lib.ListN.{length, drop}
 use Rattle.submission.specs.Scan.{hasZero}
 use Rattle.submission.proofs.ScanLaws.{zero-here, zero-on, zero-none}
 use Rattle.submission.proofs.scan.has_zero.Statement.{statement}

@@ -3,8 +3,8 @@
 use mathlib.Core.Path.{_≡_, refl, sym}
 use Prim.Native.Nat.{_-_, _≤_}
 use native.Mathlib.Omega.{arith}
-use lib.ListN.{length, drop}
 use borrow.Author.Needs.{needs}
+use lib.ListN.{length, drop}
 use Rattle.submission.specs.Scan.{sameBytes}
 use Rattle.submission.proofs.ScanLaws.{differ-here, same-on, same-none, other-length}
 use Rattle.submission.proofs.scan.same_bytes.Statement.{statement}

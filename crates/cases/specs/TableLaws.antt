@@ -1,0 +1,78 @@
+-- The worked examples hold.
+--     rows-hold    the load of each row has the outcome that the row gives
+-- Assumes nothing.
+use mathlib.Core.Path.{_≡_, refl, _∙_}
+use mathlib.Core.Bool.{Bool, true, _&&_}
+use mathlib.Core.List.{List, [], _∷_, map}
+use Prim.Native.Nat.{_+_}
+use borrow.Author.Tests.{leb-true}
+use lib.Dec.{leb}
+use Rattle.laws.specs.Tests.{any, allFrom, run}
+use Rattle.laws.specs.Table.{listed}
+use Rattle.laws.specs.TestLaws.{and-left, and-right}
+use Rattle.laws.specs.Checks.{firstOf, passes}
+use Rattle.buffer.specs.Patched.{patched}
+use Rattle.buffer.specs.Writes.{written}
+use Rattle.number.specs.Number.{number, numberBytes, wordBytes}
+use Rattle.address.specs.Address.{page, isMultiple, roundUp, inside}
+use Rattle.edge.specs.Edge.{nearest, spanEdge, edgeUpTo}
+use Rattle.submission.specs.Scan.{hasZero, sameBytes}
+use Rattle.submission.specs.Format.{dataStart}
+use Rattle.submission.specs.Layout.{layoutOf}
+use Rattle.submission.specs.Rules.{isSubmission, inLimits, stringHolds, rulesHold, submissionChecks}
+use Rattle.command_line.specs.CommandLine.{operatorChecks, commandLine}
+use Rattle.command_line.specs.LineInForce.{lineInForce}
+use Rattle.header.specs.Header.{words, isHeader, headerFrom, header}
+use Rattle.image.specs.Load.{fieldsAt, loadLength}
+use Rattle.image.specs.Judged.{headerChecks, loadChecks, imageChecks, kernelFor, kernelOf}
+use Rattle.memory_map.specs.Pairs.{nextOffset, pairOffset}
+use Rattle.memory_map.specs.Map.{begins, pairCount, tooSmall, pastEnd, badMap, mapChecks, pairAt, firstPairs}
+use Rattle.memory_map.specs.Parse.{parsedMap}
+use Rattle.usable.specs.Usable.{addressSpace, covers, usableBy, barredBy, isUsable}
+use Rattle.usable.specs.MapEdge.{mapEdge}
+use Rattle.board.specs.Open.{isOpen}
+use Rattle.board.specs.OpenEdge.{openEdge}
+use Rattle.board.specs.Window.{windowChecks}
+use Rattle.placement.specs.Free.{takenBy, isTaken, isFree}
+use Rattle.placement.specs.FreeEdge.{takenEdge, freeEdge}
+use Rattle.placement.specs.Order.{withSpan}
+use Rattle.items.specs.LoadItems.{extentsOf, loadItem, itemsOf, moduleSpans}
+use Rattle.decision.specs.Decided.{extentOpen, kernelOpen, kernelChecks, roomChecks, planOf, decidedBy}
+use Rattle.decision.specs.Plan.{noPlan}
+use Rattle.decision.specs.Decision.{lentChecks}
+use Rattle.block.specs.Block.{structureWords, textsSize, blockLength, structureFor, entryWords, entries, partsOf, blockOf, stringLengths, bootModules}
+use Rattle.block.specs.TextSize.{textSize}
+use Rattle.loader.specs.Memory.{segmentWrite, moduleWrite}
+use Rattle.cases.specs.WalkLaws.{walk, computed, computedFrom}
+use Rattle.cases.specs.RunLaws.{runEnd, computedLower, computedUpper}
+use Rattle.cases.specs.ModelLaws.{modelIn, decisionWith, modelDecision, contentsWith, writesWith, memoryWith, modelMemory, decision-computes, memory-computes}
+use Rattle.cases.specs.Table.{Input, lentOf, windowOf, Outcome, columns, outcomeOf, Row, rows}
+
+abbrev modelOutcome : Input → Outcome
+modelOutcome input =
+    let x = lentOf input in
+    let d = modelDecision x in
+    columns d (modelMemory x (windowOf input) d)
+
+-- a window ends a page before 2^32 or earlier, so that the model serves
+abbrev served : List Row → Bool
+served [] = true
+served (r ∷ rs) = leb (0x100000 + r .input .window + page) addressSpace && served rs
+
+model-serves : (l : List Row) → served l ≡ true → map (λ (r : Row). outcomeOf (r .input)) l ≡ map (λ (r : Row). modelOutcome (r .input)) l
+model-serves [] h = refl
+model-serves (r ∷ rs) h =
+    let x = lentOf (r .input) in
+    let a = leb (0x100000 + r .input .window + page) addressSpace in
+    rw (memory-computes x (windowOf (r .input)), decision-computes x (leb-true _ _ (and-left a (served rs) h)), model-serves rs (and-right a (served rs) h))
+
+all-served : served rows ≡ true
+unfolding rows
+all-served = refl
+
+computed-rows : map (λ (r : Row). modelOutcome (r .input)) rows ≡ map (λ (r : Row). r .outcome) rows
+unfolding rows columns modelIn decisionWith modelDecision contentsWith writesWith memoryWith modelMemory segmentWrite moduleWrite lentChecks extentOpen kernelOpen kernelChecks roomChecks planOf noPlan decidedBy extentsOf loadItem itemsOf moduleSpans structureWords textSize textsSize blockLength structureFor entryWords entries partsOf blockOf stringLengths bootModules walk computed computedFrom runEnd computedLower computedUpper withSpan takenBy isTaken isFree takenEdge freeEdge windowChecks openEdge isOpen mapEdge covers usableBy barredBy isUsable nextOffset pairOffset begins pairCount tooSmall pastEnd badMap mapChecks pairAt firstPairs parsedMap headerChecks loadChecks imageChecks kernelFor kernelOf fieldsAt loadLength words isHeader headerFrom header operatorChecks lineInForce commandLine isSubmission inLimits stringHolds rulesHold submissionChecks dataStart layoutOf hasZero sameBytes nearest spanEdge edgeUpTo isMultiple roundUp inside patched written number numberBytes wordBytes firstOf passes listed any allFrom run
+computed-rows = refl
+
+pub rows-hold : map (λ (r : Row). outcomeOf (r .input)) rows ≡ map (λ (r : Row). r .outcome) rows
+rows-hold = model-serves rows all-served ∙ computed-rows
