@@ -236,7 +236,7 @@ impl Load<'_> {
             ("loaded with bss_end_addr at the load end", bss_end_addr == kernel.load_end),
             ("loaded with a bss", bss_end_addr > kernel.load_end),
             ("loaded with the kernel below 1 MiB", kernel.start < FLOOR),
-            ("loaded with page boundaries", kernel.page_aligned),
+            ("loaded with page boundaries", kernel.pages),
             ("loaded with mem_lower 640", self.mem_lower() == MAX_MEM_LOWER),
             ("loaded into a window from 0 on", first == 0),
             ("loaded into a window off a word boundary", !first.is_multiple_of(WORD)),

@@ -12,7 +12,7 @@ pub mod submission {
 pub mod table_entry {
     pub const DATA_LENGTH: usize = 0;
     pub const STRING_LENGTH: usize = 4;
-    pub const ZERO: usize = 6;
+    pub const RESERVED: usize = 6;
 }
 
 /// Offsets in a header.

@@ -119,9 +119,9 @@ module _ (l : Layout) where
       (eq-or-lt-of-le h)
 
   -- the length of a block with the first n strings
-  pub block-length : (n extent text : ℕ) → blockLength (stringLengths l n) extent text ≡ stringsOffset n extent text + textsSize (stringLengths l n)
+  pub block-length : (n mapLength lineLength : ℕ) → blockLength (stringLengths l n) mapLength lineLength ≡ stringsOffset n mapLength lineLength + textsSize (stringLengths l n)
   unfolding blockLength
-  block-length n extent text = ap (λ (k : ℕ). stringsOffset k extent text + textsSize (stringLengths l n)) (length-stringLengths n)
+  block-length n mapLength lineLength = ap (λ (k : ℕ). stringsOffset k mapLength lineLength + textsSize (stringLengths l n)) (length-stringLengths n)
 
   -- one string more than the first i has room where all have
   pub strings-room : (n i : ℕ) → i < n → textsSize (stringLengths l i) + textSize (moduleNo l i .string .len) ≤ textsSize (stringLengths l n)

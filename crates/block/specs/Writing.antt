@@ -31,7 +31,7 @@ stringsOf s l n = listed (λ i. bytesOf s (moduleNo l i .string)) n
 
 -- the bytes behind the entries
 abbrev pub partsSize : ℕ → ℕ → List ℕ → ℕ
-partsSize extent text lengths = extent + length loaderName + textSize text + textsSize lengths
+partsSize mapLength lineLength lengths = mapLength + length loaderName + textSize lineLength + textsSize lengths
 
 -- the modules stand at spans below 2^32
 pub record SpansLow (l : Layout) (spans : List Span) : Type 0 where
@@ -45,9 +45,9 @@ pub record StringsIn (s : List ℕ) (l : Layout) : Type 0 where
   pub within : (i : ℕ) → i < l .count → moduleNo l i .string .at + moduleNo l i .string .len ≤ length s
 
 -- the block ends at 2^32 at the latest, and inside a window of so many bytes
-pub record Room (l : Layout) (extent text start at size : ℕ) : Type 0 where
-  pub low : start + blockLength (stringLengths l (l .count)) extent text ≤ 2 ^ 32
-  pub inside : at + blockLength (stringLengths l (l .count)) extent text ≤ size
+pub record Room (l : Layout) (mapLength lineLength start at size : ℕ) : Type 0 where
+  pub low : start + blockLength (stringLengths l (l .count)) mapLength lineLength ≤ 2 ^ 32
+  pub inside : at + blockLength (stringLengths l (l .count)) mapLength lineLength ≤ size
 
 pub record PartsStand (count mapLength lineLength : ℕ) (o : Offsets) : Type 0 where
   pub map : o .map ≡ mapOffset count

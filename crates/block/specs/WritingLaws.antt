@@ -100,15 +100,15 @@ strings-bound l k zero h = omega arith
 strings-bound l k (suc n) h =
     omega (arith, textsSize-more (stringLengths l n) (moduleNo l n .string .len), strings-bound l k n (λ i u. h i (omega arith)), size-high (moduleNo l n .string .len), h n (omega arith), suc-mul n (k + 1))
 
-pub block-bound : (l : Layout) (k extent text : ℕ) → ((i : ℕ) → i < l .count → moduleNo l i .string .len ≤ k)
-    → blockLength (stringLengths l (l .count)) extent text ≤ mapOffset (l .count) + extent + length loaderName + (text + 1) + l .count * (k + 1)
-block-bound l k extent text h = omega (arith, block-length l (l .count) extent text, size-high text, strings-bound l k (l .count) h)
+pub block-bound : (l : Layout) (k mapLength lineLength : ℕ) → ((i : ℕ) → i < l .count → moduleNo l i .string .len ≤ k)
+    → blockLength (stringLengths l (l .count)) mapLength lineLength ≤ mapOffset (l .count) + mapLength + length loaderName + (lineLength + 1) + l .count * (k + 1)
+block-bound l k mapLength lineLength h = omega (arith, block-length l (l .count) mapLength lineLength, size-high lineLength, strings-bound l k (l .count) h)
 
 -- the room of a block, in the sums that its writing makes
-pub room-low : (l : Layout) (extent text start at size : ℕ) → Room l extent text start at size
-    → start + stringsOffset (l .count) extent text + textsSize (stringLengths l (l .count)) ≤ 2 ^ 32
-room-low l extent text start at size r = omega (arith, r .low, block-length l (l .count) extent text)
+pub room-low : (l : Layout) (mapLength lineLength start at size : ℕ) → Room l mapLength lineLength start at size
+    → start + stringsOffset (l .count) mapLength lineLength + textsSize (stringLengths l (l .count)) ≤ 2 ^ 32
+room-low l mapLength lineLength start at size r = omega (arith, r .low, block-length l (l .count) mapLength lineLength)
 
-pub room-inside : (l : Layout) (extent text start at size : ℕ) → Room l extent text start at size
-    → at + stringsOffset (l .count) extent text + textsSize (stringLengths l (l .count)) ≤ size
-room-inside l extent text start at size r = omega (arith, r .inside, block-length l (l .count) extent text)
+pub room-inside : (l : Layout) (mapLength lineLength start at size : ℕ) → Room l mapLength lineLength start at size
+    → at + stringsOffset (l .count) mapLength lineLength + textsSize (stringLengths l (l .count)) ≤ size
+room-inside l mapLength lineLength start at size r = omega (arith, r .inside, block-length l (l .count) mapLength lineLength)

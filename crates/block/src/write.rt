@@ -81,7 +81,7 @@ fn write_parts(
     write_strings(window, strings_at, submission, layout);
 }
 
-// The structure of a block with `count` modules, a map of `extent` bytes and a command line of `text` bytes.
+// The structure of a block with `count` modules, a map of `map_length` bytes and a command line of `line_length`.
 fn structure_for(
     count: usize,
     map_length: usize,
@@ -107,7 +107,7 @@ fn structure_for(
     }
 }
 
-// The flags of a structure with a command line of `text` bytes.
+// The flags of a structure with a command line of `line_length` bytes.
 fn flags(line_length: usize) -> u32
     ensures { λ r. ⌜ r ≡ flagsOf «line_length» ⌝ }
 {

@@ -1,7 +1,7 @@
 // The memory that a load may write: what the memory map makes usable, inside the window.
 use address::PhysAddr;
 use address::Span;
-use memory_map::MemMap;
+use memory_map::MemoryMap;
 ghost use mathlib.Core.Path.{_≡_};
 ghost use Prim.Native.Nat.{_-_};
 ghost use Rattle.laws.specs.Tests.{allFrom};
@@ -12,7 +12,7 @@ pub mod window;
 
 // A memory map, and the window that stands for physical memory.
 pub struct Board {
-    pub map: MemMap,
+    pub map: MemoryMap,
     pub window: Span,
 }
 

@@ -12,7 +12,7 @@ use Rattle.laws.specs.Tests.{run}
 use Rattle.laws.specs.TestLaws.{true-or-false, run-is}
 use Rattle.address.specs.Address.{floor}
 use Rattle.edge.specs.PassLaws.{AllPass, pass-start, pass-on}
-use Rattle.memory_map.specs.declared.MemMap.{MemMap}
+use Rattle.memory_map.specs.declared.MemoryMap.{MemoryMap}
 use Rattle.usable.specs.Usable.{addressSpace, isUsable}
 use Rattle.usable.specs.UsableLaws.{usable-is}
 use Rattle.usable.specs.MapEdge.{mapEdge}
@@ -24,7 +24,7 @@ ended : (f : ℕ → Bool) (a x k : ℕ) → AllPass f a x → x - a ≤ k - a �
 ended f a x k h l q =
     run-is f (k - a) a (x - a) l (λ y u v. h .all y u (omega (arith, h .from))) (λ u. let e : a + (x - a) ≡ x = omega (arith, h .from) in rw e (q (omega arith)))
 
-module _ (m : MemMap) where
+module _ (m : MemoryMap) where
   -- where the run that has come to x ends; k bounds the steps
   unfoldable pub runEnd : ℕ → ℕ → ℕ
   runEnd zero x = x

@@ -13,7 +13,7 @@ use Rattle.buffer.specs.Patched.{patched, zeros}
 use Rattle.number.specs.Number.{numberAt, numberBytes, wordBytes}
 use Rattle.address.specs.Span.{spanNo}
 use Rattle.answer.specs.Answer.{numberOf, itemOf}
-use Rattle.header.specs.Header.{magic}
+use Rattle.header.specs.Header.{headerMagic}
 use Rattle.image.specs.Kernel.{segmentNo}
 use Rattle.decision.specs.declared.Decision.{Decision}
 use Rattle.decision.specs.Lent.{Lent}
@@ -149,7 +149,7 @@ refusal number item = record {
 
 -- a header that loads to 0x100000: header_addr, load_end_addr, bss_end_addr, entry_addr, and eight bytes of code
 abbrev loading : ℕ → ℕ → ℕ → ℕ → List ℕ
-loading addr end bss entry = magic ∷ 0x00010001 ∷ 0xE4514FFD ∷ addr ∷ 0x100000 ∷ end ∷ bss ∷ entry ∷ 0xF4F4F4F4 ∷ 0xF4F4F4F4 ∷ []
+loading addr end bss entry = headerMagic ∷ 0x00010001 ∷ 0xE4514FFD ∷ addr ∷ 0x100000 ∷ end ∷ bss ∷ entry ∷ 0xF4F4F4F4 ∷ 0xF4F4F4F4 ∷ []
 
 -- `shelf 1` and a zero
 abbrev shelf : List ℕ
@@ -158,11 +158,11 @@ shelf = 0x73 ∷ 0x68 ∷ 0x65 ∷ 0x6C ∷ 0x66 ∷ 0x20 ∷ 0x31 ∷ 0 ∷ []
 unfoldable pub rows : List Row
 rows =
     -- flags 0 has the checksum 0xE4524FFE, and 0x00010001 has 0xE4514FFD: headers, but without address fields, or cut off
-    record { bytes = 12; place = 0; words = magic ∷ 0 ∷ 0xE4524FFE ∷ []; hello = false; string = 0; line = 0; low = 0x9FC00; window = 0xC000 } yields refusal 8 0
-    ∷ record { bytes = 12; place = 0; words = magic ∷ 0x00010001 ∷ 0xE4514FFD ∷ []; hello = false; string = 0; line = 0; low = 0x9FC00; window = 0xC000 } yields refusal 9 0
+    record { bytes = 12; place = 0; words = headerMagic ∷ 0 ∷ 0xE4524FFE ∷ []; hello = false; string = 0; line = 0; low = 0x9FC00; window = 0xC000 } yields refusal 8 0
+    ∷ record { bytes = 12; place = 0; words = headerMagic ∷ 0x00010001 ∷ 0xE4514FFD ∷ []; hello = false; string = 0; line = 0; low = 0x9FC00; window = 0xC000 } yields refusal 9 0
     -- the last place that is searched, and the next
-    ∷ record { bytes = 9000; place = 8180; words = magic ∷ 0 ∷ 0xE4524FFE ∷ []; hello = false; string = 0; line = 0; low = 0x9FC00; window = 0xC000 } yields refusal 8 0
-    ∷ record { bytes = 9000; place = 8184; words = magic ∷ 0 ∷ 0xE4524FFE ∷ []; hello = false; string = 0; line = 0; low = 0x9FC00; window = 0xC000 } yields refusal 6 0
+    ∷ record { bytes = 9000; place = 8180; words = headerMagic ∷ 0 ∷ 0xE4524FFE ∷ []; hello = false; string = 0; line = 0; low = 0x9FC00; window = 0xC000 } yields refusal 8 0
+    ∷ record { bytes = 9000; place = 8184; words = headerMagic ∷ 0 ∷ 0xE4524FFE ∷ []; hello = false; string = 0; line = 0; low = 0x9FC00; window = 0xC000 } yields refusal 6 0
     -- a load that begins with the image, and one that would begin before it
     ∷ record { bytes = 56; place = 16; words = loading 0x100010 0 0 0x100020; hello = false; string = 0; line = 0; low = 0x9FC00; window = 0xC000 }
     yields loaded

@@ -37,7 +37,7 @@ use Rattle.image.specs.declared.Judged.{Judged}
 use Rattle.image.specs.Judged.{headerChecks, loadChecks, imageChecks}
 use Rattle.image.specs.Judge.{judged}
 use Rattle.image.specs.JudgedLaws.{image-refuses, judged-answer, judged-load, good-kernel}
-use Rattle.memory_map.specs.declared.MemMap.{MemMap}
+use Rattle.memory_map.specs.declared.MemoryMap.{MemoryMap}
 use Rattle.memory_map.specs.declared.ParsedMap.{ParsedMap}
 use Rattle.memory_map.specs.Map.{mapChecks, badMap, firstPairs, mapOf}
 use Rattle.memory_map.specs.Parse.{parsedMap}
@@ -208,5 +208,5 @@ pub block-length-is : (x : Lent) (l : Layout) (line : List ℕ) (n : ℕ) → l 
     → n ≡ blockLengthIn x
 block-length-is x l line n le ze e = rw (le, ze) at e
 
-pub board-is : (x : Lent) (m : MemMap) (w : Span) → m ≡ mapOf (x .map) → w ≡ windowSpan (x .first) (x .size) → record { map = m; window = w } ≡ boardIn x
+pub board-is : (x : Lent) (m : MemoryMap) (w : Span) → m ≡ mapOf (x .map) → w ≡ windowSpan (x .first) (x .size) → record { map = m; window = w } ≡ boardIn x
 board-is x m w me we = rw (me, we)

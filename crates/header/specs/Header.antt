@@ -1,8 +1,8 @@
 -- The Multiboot header of an image.                                                    rule: HEADER
---     magic, searchLimit, shortHeader    the numbers of the rule
---     words                              the numbers that bytes make, four by four
---     isHeader, headerFrom, header       the search, word by word from the front
--- Its answer in propositions is in HeaderLaws.
+--     headerMagic, searchLimit, shortHeader    the numbers of the rule
+--     words                                    the numbers that bytes make, four by four
+--     isHeader, headerFrom, header             the search, word by word from the front
+-- What a header is in propositions stands in HeaderAt, and that the search finds the lowest in HeaderLaws.
 -- Assumes nothing.
 use mathlib.Core.Bool.{Bool, cond, _&&_}
 use mathlib.Core.List.{List, [], _∷_}
@@ -14,8 +14,8 @@ use Rattle.header.specs.declared.Search.{Search}
 use Rattle.header.specs.declared.Search.the-variants.{At, Nothing}
 
 -- a header begins with this number
-abbrev pub magic : ℕ
-magic = 0x1BADB002
+abbrev pub headerMagic : ℕ
+headerMagic = 0x1BADB002
 
 -- it lies wholly in so many bytes from the image's start
 abbrev pub searchLimit : ℕ
@@ -35,7 +35,7 @@ words (a ∷ b ∷ c ∷ d ∷ s) = number 4 (a ∷ b ∷ c ∷ d ∷ []) ∷ wo
 
 -- the first word is the magic, and magic, flags and checksum, summed modulo 2^32, give 0
 unfoldable pub isHeader : ℕ → ℕ → ℕ → Bool
-isHeader m flags checksum = eqb m magic && eqb ((m + flags + checksum) % 2 ^ 32) 0
+isHeader m flags checksum = eqb m headerMagic && eqb ((m + flags + checksum) % 2 ^ 32) 0
 
 -- the lowest of three words in a row that are a header's; the first word stands at the offset `at`
 unfoldable pub headerFrom : ℕ → List ℕ → Search

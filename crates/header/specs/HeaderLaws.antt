@@ -21,14 +21,14 @@ use Rattle.number.specs.NumberLaws.{number-take}
 use Rattle.address.specs.declared.ImageOffset.{ImageOffset}
 use Rattle.header.specs.declared.Search.{Search}
 use Rattle.header.specs.declared.Search.the-variants.{At, Nothing}
-use Rattle.header.specs.Header.{magic, searchLimit, shortHeader, words, isHeader, headerFrom, header}
+use Rattle.header.specs.Header.{headerMagic, searchLimit, shortHeader, words, isHeader, headerFrom, header}
 use Rattle.header.specs.WalkLaws.{found-at, passed-at, none-left}
 use Rattle.header.specs.HeaderAt.{HeaderAt}
 
-is-header : (m f k : ℕ) → isHeader m f k ≡ true → (m ≡ magic) × ((m + f + k) % 2 ^ 32 ≡ 0)
+is-header : (m f k : ℕ) → isHeader m f k ≡ true → (m ≡ headerMagic) × ((m + f + k) % 2 ^ 32 ≡ 0)
 unfolding isHeader
 is-header m f k t =
-    let p = eqb m magic in
+    let p = eqb m headerMagic in
     let q = eqb ((m + f + k) % 2 ^ 32) 0 in
     (eqb-true _ _ (and-left p q t), eqb-true _ _ (and-right p q t))
 

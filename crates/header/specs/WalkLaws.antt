@@ -14,7 +14,7 @@ use lib.ListN.{length, take, drop, length-drop}
 use lib.Seq.{drop-drop, take-all}
 use Rattle.number.specs.Number.{number, numberAt}
 use Rattle.header.specs.declared.Search.the-variants.{At, Nothing}
-use Rattle.header.specs.Header.{magic, searchLimit, shortHeader, words, isHeader, headerFrom, header}
+use Rattle.header.specs.Header.{headerMagic, searchLimit, shortHeader, words, isHeader, headerFrom, header}
 
 words-cons : (s : List ℕ) → 4 ≤ length s → words s ≡ number 4 s ∷ words (drop 4 s)
 unfolding words number
@@ -86,13 +86,13 @@ pub first-part : (s : List ℕ) → headerFrom 0 (words (take searchLimit s)) �
 unfolding header
 first-part s = refl
 
-pub other-magic : (m f k : ℕ) → (m ≡ magic → ⊥) → false ≡ isHeader m f k
+pub other-magic : (m f k : ℕ) → (m ≡ headerMagic → ⊥) → false ≡ isHeader m f k
 unfolding isHeader
-other-magic m f k h = rw (ne-eqb m magic h)
+other-magic m f k h = rw (ne-eqb m headerMagic h)
 
 -- t is the sum of the three, added one by one modulo 2^32
-pub by-sum : (m f k s t : ℕ) → m ≡ magic → s ≡ (m + f) % 2 ^ 32 → t ≡ (s + k) % 2 ^ 32 → eqb t 0 ≡ isHeader m f k
+pub by-sum : (m f k s t : ℕ) → m ≡ headerMagic → s ≡ (m + f) % 2 ^ 32 → t ≡ (s + k) % 2 ^ 32 → eqb t 0 ≡ isHeader m f k
 unfolding isHeader
 by-sum m f k s t e p q =
     let z : t ≡ (m + f + k) % 2 ^ 32 = omega arith in
-    rw (eq-eqb m magic e, z)
+    rw (eq-eqb m headerMagic e, z)

@@ -6,7 +6,7 @@ ghost use Rattle.number.specs.Number.{numberAt};
 ghost use Rattle.header.specs.Header.{shortHeader, words, isHeader, headerFrom, header};
 
 // A header begins with this number.
-const MAGIC: u32 = 0x1BADB002;
+const HEADER_MAGIC: u32 = 0x1BADB002;
 
 // A header lies wholly in so many bytes from the image's start.
 pub const SEARCH_LIMIT: usize = 8192;
@@ -32,7 +32,7 @@ fn is_header(s: &[u8], at: usize) -> bool
     let flags = number::read_u32(s, at + 4);
     let checksum = number::read_u32(s, at + 8);
     let sum = std::num::wrapping_add_u32(std::num::wrapping_add_u32(magic, flags), checksum);
-    if magic != MAGIC {
+    if magic != HEADER_MAGIC {
         return false;
     }
     sum == 0

@@ -63,8 +63,8 @@ unfolding segmentWrite
 segment-written f image k i w v len at count bytes l b p n h = rw (← l, ← b, ← p, ← n) h
 
 -- the information block, as its parts are read
-pub block-room : (l : Layout) (extent start size : ℕ) (line text : List ℕ) (at place : ℕ) → line ≡ text → at ≡ place → Room l extent (length text) start place size → Room l extent (length line) start at size
-block-room l extent start size line text at place e f r = record { low = rw e (r .low); inside = rw (e, f) (r .inside) }
+pub block-room : (l : Layout) (mapLength start size : ℕ) (line text : List ℕ) (at place : ℕ) → line ≡ text → at ≡ place → Room l mapLength (length text) start place size → Room l mapLength (length line) start at size
+block-room l mapLength start size line text at place e f r = record { low = rw e (r .low); inside = rw (e, f) (r .inside) }
 
 pub block-written : (w v s operator m : List ℕ) (l : Layout) (spans : List Span) (start place : ℕ) (line : List ℕ) (p : ParsedMap) (lower upper at : ℕ)
     → line ≡ commandLine operator s → p ≡ parsedMap m → lower ≡ memLower (p .map) → upper ≡ memUpper (p .map) → at ≡ place

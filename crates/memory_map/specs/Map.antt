@@ -17,7 +17,7 @@ use Rattle.number.specs.Number.{numberAt}
 use Rattle.answer.specs.declared.Answer.{Answer}
 use Rattle.answer.specs.declared.Answer.the-variants.{BadMemoryMap}
 use Rattle.memory_map.specs.declared.Pair.{Pair}
-use Rattle.memory_map.specs.declared.MemMap.{MemMap}
+use Rattle.memory_map.specs.declared.MemoryMap.{MemoryMap}
 use Rattle.memory_map.specs.Pairs.{pairOffset, sizeAt, nextOffset, baseOffset, lengthOffset, kindOffset}
 
 -- the most pairs, the most bytes, and the least size
@@ -34,7 +34,7 @@ abbrev pub noPair : Pair
 noPair = record { base = 0; length = 0; kind = 0 }
 
 -- the pair of the index i
-abbrev pub pairNo : MemMap → ℕ → Pair
+abbrev pub pairNo : MemoryMap → ℕ → Pair
 pairNo m i = getD (m .pairs) i noPair
 
 -- a pair of this index begins before the end of the map
@@ -72,9 +72,9 @@ pairAt m at = record {
 }
 
 -- the first n pairs as a map, with zeros past the last
-unfoldable pub firstPairs : List ℕ → ℕ → MemMap
+unfoldable pub firstPairs : List ℕ → ℕ → MemoryMap
 firstPairs m n = record { pairs = table (λ i. pairAt m (pairOffset m i)) n maxPairs noPair; count = n }
 
 -- the pairs of a map
-abbrev pub mapOf : List ℕ → MemMap
+abbrev pub mapOf : List ℕ → MemoryMap
 mapOf m = firstPairs m (pairCount m)

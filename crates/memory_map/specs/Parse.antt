@@ -7,12 +7,12 @@ use Prim.Native.Nat.{ℕ}
 use lib.ListN.{replicate}
 use Rattle.laws.specs.Checks.{firstOf}
 use Rattle.answer.specs.declared.Answer.the-variants.{Load}
-use Rattle.memory_map.specs.declared.MemMap.{MemMap}
+use Rattle.memory_map.specs.declared.MemoryMap.{MemoryMap}
 use Rattle.memory_map.specs.declared.ParsedMap.{ParsedMap}
 use Rattle.memory_map.specs.Map.{maxPairs, mapChecks, noPair, badMap, mapOf}
 
 -- the map of a refusal
-abbrev pub noMap : MemMap
+abbrev pub noMap : MemoryMap
 noMap = record { pairs = replicate maxPairs noPair; count = 0 }
 
 -- the answer, and the pairs where the map is not refused

@@ -32,12 +32,12 @@ pub struct Pair {
 }
 
 // The pairs of a map; past the last the entries are zero.
-pub struct MemMap {
+pub struct MemoryMap {
     pub pairs: [Pair; MAX_PAIRS],
     pub count: usize,
 }
 
-impl MemMap {
+impl MemoryMap {
     // How many pairs there are: the count, and no more than the array holds.
     pub fn len(self) -> usize
         ensures { λ r. ⌜ r ≡ min (self .count) maxPairs ⌝ }
@@ -53,7 +53,7 @@ impl MemMap {
 // What reading a map answers: Load and its pairs, or the refusal and no pairs.
 pub struct ParsedMap {
     pub answer: Answer,
-    pub map: MemMap,
+    pub map: MemoryMap,
 }
 
 // Reads a map, or refuses it where it breaks a rule of its format.
@@ -84,7 +84,7 @@ pub fn parse(m: &[u8]) -> ParsedMap
     }
     ParsedMap {
         answer: Answer::Load,
-        map: MemMap { pairs, count },
+        map: MemoryMap { pairs, count },
     }
 }
 
@@ -127,7 +127,7 @@ fn refused() -> ParsedMap
 }
 
 // A map of no pairs.
-fn no_map() -> MemMap
+fn no_map() -> MemoryMap
     ensures { λ r. ⌜ r ≡ noMap ⌝ }
 {
     let none = Pair {
@@ -135,7 +135,7 @@ fn no_map() -> MemMap
         length: 0,
         kind: 0,
     };
-    MemMap {
+    MemoryMap {
         pairs: [none; MAX_PAIRS],
         count: 0,
     }

@@ -26,7 +26,7 @@ use Rattle.submission.specs.declared.Module.{Module}
 use Rattle.submission.specs.Format.{moduleCount, stringLength, stringBytes}
 use Rattle.submission.specs.FormatLaws.{layout-count, module-at, length-bytesOf}
 use Rattle.submission.specs.RuleLaws.{string-inside}
-use Rattle.memory_map.specs.declared.MemMap.{MemMap}
+use Rattle.memory_map.specs.declared.MemoryMap.{MemoryMap}
 use Rattle.memory_map.specs.Map.{mapOf}
 use Rattle.memory_map.specs.Parse.{parsedMap}
 use Rattle.memory_map.specs.PairsLaws.{parsed-good}
@@ -49,11 +49,11 @@ use Rattle.loader.specs.WriteLaws.{spans-low, strings-in, room}
 use Rattle.theorems.specs.SizeLaws.{line-known, strings-size}
 use Rattle.theorems.specs.Promises.{stringPlace, wordAt, bytesFrom, ReadBack}
 
-lower-small : (m : MemMap) → memLower m < 2 ^ 32
+lower-small : (m : MemoryMap) → memLower m < 2 ^ 32
 unfolding memLower
 lower-small m = omega arith
 
-upper-small : (m : MemMap) → memUpper m < 2 ^ 32
+upper-small : (m : MemoryMap) → memUpper m < 2 ^ 32
 unfolding memUpper
 upper-small m = omega (arith, run-says (isUsable m) floor (addressSpace - floor) .low)
 

@@ -16,23 +16,23 @@ use Rattle.laws.specs.TestLaws.{any-more, any-here, any-past}
 use Rattle.address.specs.Address.{inside}
 use Rattle.edge.specs.Edge.{nearest, edgeUpTo}
 use Rattle.edge.specs.EdgeLaws.{edges-past}
-use Rattle.memory_map.specs.declared.MemMap.{MemMap}
+use Rattle.memory_map.specs.declared.MemoryMap.{MemoryMap}
 use Rattle.memory_map.specs.declared.Pair.{Pair}
 use Rattle.memory_map.specs.Map.{maxPairs, noPair, pairNo}
 use Rattle.usable.specs.Usable.{ram, addressSpace, covers, usableBy, barredBy, isUsable}
 use Rattle.usable.specs.MapEdge.{mapEdge}
 
 -- what is known after i pairs, none of another type having covered the address
-pub record Scanned (m : MemMap) (a i : ℕ) (found : Bool) : Type 0 where
+pub record Scanned (m : MemoryMap) (a i : ℕ) (found : Bool) : Type 0 where
   pub within : i ≤ m .count
   pub some : found ≡ any (usableBy m a) i
   pub none : any (barredBy m a) i ≡ false
 
-pub usable-above : (m : MemMap) (a : ℕ) → addressSpace ≤ a → false ≡ isUsable m a
+pub usable-above : (m : MemoryMap) (a : ℕ) → addressSpace ≤ a → false ≡ isUsable m a
 unfolding isUsable
 usable-above m a l = rw (le-ltb a addressSpace l)
 
-module _ (m : MemMap) (a i : ℕ) where
+module _ (m : MemoryMap) (a i : ℕ) where
   -- past the array's end no pair covers an address
   past-covers : (j : ℕ) → length (m .pairs) ≤ j → covers (pairNo m j) a ≡ false
   unfolding covers inside
@@ -96,7 +96,7 @@ module _ (m : MemMap) (a i : ℕ) where
         }
 
 -- the edges of the pairs of the array are those of all
-pub edge-end : (m : MemMap) (x e f r i : ℕ) → length (m .pairs) ≡ maxPairs → i ≤ m .count → min (m .count) maxPairs ≤ i → f ≡ nearest x e addressSpace
+pub edge-end : (m : MemoryMap) (x e f r i : ℕ) → length (m .pairs) ≡ maxPairs → i ≤ m .count → min (m .count) maxPairs ≤ i → f ≡ nearest x e addressSpace
     → r ≡ edgeUpTo (λ j. pairNo m j .base) (λ j. pairNo m j .base + pairNo m j .length) x f i
     → r ≡ mapEdge m x e
 unfolding mapEdge

@@ -10,12 +10,12 @@ use Rattle.laws.specs.Tests.{any}
 use Rattle.laws.specs.TestLaws.{any-same}
 use Rattle.edge.specs.Edge.{nearest}
 use Rattle.edge.specs.EdgeLaws.{Edge, Edges, nearest-is, ltb-not, edges-are}
-use Rattle.memory_map.specs.declared.MemMap.{MemMap}
+use Rattle.memory_map.specs.declared.MemoryMap.{MemoryMap}
 use Rattle.memory_map.specs.Map.{pairNo}
 use Rattle.usable.specs.Usable.{ram, addressSpace, covers, usableBy, barredBy, isUsable}
 use Rattle.usable.specs.MapEdge.{mapEdge}
 
-module _ (m : MemMap) (x y k : ℕ) (h : (i : ℕ) → i < k → covers (pairNo m i) y ≡ covers (pairNo m i) x) where
+module _ (m : MemoryMap) (x y k : ℕ) (h : (i : ℕ) → i < k → covers (pairNo m i) y ≡ covers (pairNo m i) x) where
   same-usable : any (usableBy m y) k ≡ any (usableBy m x) k
   unfolding usableBy
   same-usable = any-same _ _ k (λ i l. ap (λ (b : Bool). eqb (pairNo m i .kind) ram && b) (h i l))
@@ -24,7 +24,7 @@ module _ (m : MemMap) (x y k : ℕ) (h : (i : ℕ) → i < k → covers (pairNo 
   unfolding barredBy
   same-barred = any-same _ _ k (λ i l. ap (λ (b : Bool). not (eqb (pairNo m i .kind) ram) && b) (h i l))
 
-module _ (m : MemMap) (x e : ℕ) (l : x < e) where
+module _ (m : MemoryMap) (x e : ℕ) (l : x < e) where
   -- addresses end at 2^32, which is an edge too
   ends-same : Edge (leb addressSpace) x e (nearest x e addressSpace)
   ends-same = nearest-is x e addressSpace l

@@ -5,7 +5,7 @@
 use Prim.Native.Nat.{ℕ, _-_, _/_, min}
 use Rattle.laws.specs.Tests.{run}
 use Rattle.address.specs.Address.{floor}
-use Rattle.memory_map.specs.declared.MemMap.{MemMap}
+use Rattle.memory_map.specs.declared.MemoryMap.{MemoryMap}
 use Rattle.usable.specs.Usable.{addressSpace, isUsable}
 
 abbrev pub kib : ℕ
@@ -14,8 +14,8 @@ kib = 1024
 abbrev pub maxMemLower : ℕ
 maxMemLower = 640
 
-unfoldable pub memLower : MemMap → ℕ
+unfoldable pub memLower : MemoryMap → ℕ
 memLower m = min (run (isUsable m) 0 addressSpace / kib) maxMemLower
 
-unfoldable pub memUpper : MemMap → ℕ
+unfoldable pub memUpper : MemoryMap → ℕ
 memUpper m = run (isUsable m) floor (addressSpace - floor) / kib

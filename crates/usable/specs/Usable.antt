@@ -10,7 +10,7 @@ use lib.Dec.{eqb, ltb}
 use Rattle.laws.specs.Tests.{any}
 use Rattle.address.specs.Address.{inside}
 use Rattle.memory_map.specs.declared.Pair.{Pair}
-use Rattle.memory_map.specs.declared.MemMap.{MemMap}
+use Rattle.memory_map.specs.declared.MemoryMap.{MemoryMap}
 use Rattle.memory_map.specs.Map.{pairNo}
 
 abbrev pub ram : ℕ
@@ -24,12 +24,12 @@ unfoldable pub covers : Pair → ℕ → Bool
 covers p a = inside (p .base) (p .base + p .length) a
 
 -- the pair i covers the address, and is of usable memory, or of another type
-unfoldable pub usableBy : MemMap → ℕ → ℕ → Bool
+unfoldable pub usableBy : MemoryMap → ℕ → ℕ → Bool
 usableBy m a i = eqb (pairNo m i .kind) ram && covers (pairNo m i) a
 
-unfoldable pub barredBy : MemMap → ℕ → ℕ → Bool
+unfoldable pub barredBy : MemoryMap → ℕ → ℕ → Bool
 barredBy m a i = not (eqb (pairNo m i .kind) ram) && covers (pairNo m i) a
 
 -- an address below 2^32 is usable if some pair of type 1 covers it and no pair of another type does
-unfoldable pub isUsable : MemMap → ℕ → Bool
+unfoldable pub isUsable : MemoryMap → ℕ → Bool
 isUsable m a = ltb a addressSpace && any (usableBy m a) (m .count) && not (any (barredBy m a) (m .count))

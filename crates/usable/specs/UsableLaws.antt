@@ -15,7 +15,7 @@ use Rattle.laws.specs.TestLaws.{true-or-false, and-left, and-right, any-at, any
 use Rattle.address.specs.Address.{inside}
 use Rattle.address.specs.InsideLaws.{inside-is}
 use Rattle.memory_map.specs.declared.Pair.{Pair}
-use Rattle.memory_map.specs.declared.MemMap.{MemMap}
+use Rattle.memory_map.specs.declared.MemoryMap.{MemoryMap}
 use Rattle.memory_map.specs.Map.{pairNo, pairCount, pairAt, mapOf, firstPairs}
 use Rattle.memory_map.specs.Pairs.{pairOffset}
 use Rattle.memory_map.specs.PairsLaws.{pair-listed, count-begins, begins-count}
@@ -34,12 +34,12 @@ pub covers-exact : covers (record { base = 2 ^ 64 - 1; length = 2; kind = ram })
 unfolding covers inside
 covers-exact = refl
 
-pub record UsableBy (m : MemMap) (a : ℕ) : Type 0 where
+pub record UsableBy (m : MemoryMap) (a : ℕ) : Type 0 where
   pub below : a < addressSpace
   pub some : (i : ℕ) × (i < m .count) × (pairNo m i .kind ≡ ram) × Covers (pairNo m i) a
   pub none : (i : ℕ) → i < m .count → (pairNo m i .kind ≡ ram → ⊥) → Covers (pairNo m i) a → ⊥
 
-module _ (m : MemMap) (a : ℕ) where
+module _ (m : MemoryMap) (a : ℕ) where
   pub by-usable : (i : ℕ) → (usableBy m a i ≡ true) ↔ ((pairNo m i .kind ≡ ram) × Covers (pairNo m i) a)
   unfolding usableBy
   by-usable i =

@@ -1,6 +1,6 @@
 // Which addresses are usable by a memory map. A pair is taken as it stands: the sum of base and length is never made where it could wrap.
 use address::PhysAddr;
-use memory_map::MemMap;
+use memory_map::MemoryMap;
 use memory_map::Pair;
 ghost use mathlib.Core.Path.{_≡_};
 ghost use Prim.Native.Nat.{_+_};
@@ -27,7 +27,7 @@ fn pair_covers(pair: Pair, a: PhysAddr) -> bool
 }
 
 // Whether the address is usable: some pair of usable memory covers it, and no pair of another type does.
-pub fn is_usable(map: MemMap, a: PhysAddr) -> bool
+pub fn is_usable(map: MemoryMap, a: PhysAddr) -> bool
     ensures { λ r. ⌜ r ≡ isUsable map (a .0) ⌝ }
 {
     if ADDRESS_SPACE <= a.0 {
@@ -64,7 +64,7 @@ fn pair_edge(pair: Pair, x: PhysAddr, e: PhysAddr) -> PhysAddr
 }
 
 // The nearest edge of a pair of the map, or of all addresses, past x and before e, else e.
-pub fn map_edge(map: MemMap, x: PhysAddr, e: PhysAddr) -> PhysAddr
+pub fn map_edge(map: MemoryMap, x: PhysAddr, e: PhysAddr) -> PhysAddr
     ensures { λ r. ⌜ r .0 ≡ mapEdge map (x .0) (e .0) ⌝ }
 {
     let n = map.len();

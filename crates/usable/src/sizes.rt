@@ -3,7 +3,7 @@ use crate::ADDRESS_SPACE;
 use crate::is_usable;
 use crate::map_edge;
 use address::PhysAddr;
-use memory_map::MemMap;
+use memory_map::MemoryMap;
 ghost use mathlib.Core.Path.{_≡_};
 ghost use Prim.Native.Nat.{_-_};
 ghost use Rattle.laws.specs.Tests.{run};
@@ -17,7 +17,7 @@ const KIB: u64 = 1024;
 const MAX_MEM_LOWER: u64 = 640;
 
 // The number of consecutive usable addresses from start on.
-fn usable_run(map: MemMap, start: PhysAddr) -> u64
+fn usable_run(map: MemoryMap, start: PhysAddr) -> u64
     ensures { λ r. ⌜ r ≡ run (isUsable map) (start .0) (addressSpace - start .0) ⌝ }
 {
     let mut x = start;
@@ -31,7 +31,7 @@ fn usable_run(map: MemMap, start: PhysAddr) -> u64
 }
 
 // The size of lower memory in KiB.
-pub fn mem_lower(map: MemMap) -> u32
+pub fn mem_lower(map: MemoryMap) -> u32
     ensures { λ r. ⌜ r ≡ memLower map ⌝ }
 {
     let size = usable_run(map, PhysAddr(0)) / KIB;
@@ -43,7 +43,7 @@ pub fn mem_lower(map: MemMap) -> u32
 }
 
 // The size of upper memory in KiB.
-pub fn mem_upper(map: MemMap) -> u32
+pub fn mem_upper(map: MemoryMap) -> u32
     ensures { λ r. ⌜ r ≡ memUpper map ⌝ }
 {
     (usable_run(map, PhysAddr(PhysAddr::FLOOR)) / KIB) as u32

@@ -18,7 +18,7 @@ pub struct ImageOffset(pub u64);
 /// What the header asks for.
 pub struct Kernel<'a> {
     pub header_offset: ImageOffset,
-    pub page_aligned: bool,
+    pub pages: bool,
     pub start: u64,
     pub load_end: u64,
     pub extent_end: u64,
@@ -51,7 +51,7 @@ impl<'a> Kernel<'a> {
         }
         Ok(Kernel {
             header_offset,
-            page_aligned: flags & PAGE_ALIGNED != 0,
+            pages: flags & PAGE_ALIGNED != 0,
             start: load.start,
             load_end: load.end,
             extent_end: load.end.max(fields.bss_end_addr),

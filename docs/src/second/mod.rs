@@ -60,7 +60,7 @@ pub fn examine(case: &Case) -> Result<Examined<'_>, Refusal> {
 impl Examined<'_> {
     /// The modules in list order.
     pub fn module_items(&self) -> Vec<Item> {
-        let boundary = if self.kernel.page_aligned { PAGE } else { WORD };
+        let boundary = if self.kernel.pages { PAGE } else { WORD };
         let item = |length: usize| Item { length: length as u64, boundary };
         let modules = self.submission.modules.iter();
         modules.map(|module| item(module.data.len())).collect()

@@ -62,7 +62,7 @@ fn cut_text<'a>(rest: &mut &'a [u8], length: usize) -> Option<&'a [u8]> {
 fn cut_module<'a>(rest: &mut &'a [u8], entry: &[u8]) -> Option<Module<'a>> {
     let data_length = u32_at(entry, table_entry::DATA_LENGTH) as usize;
     let string_length = usize::from(u16_at(entry, table_entry::STRING_LENGTH));
-    if data_length == 0 || string_length > MAX_STRING || u16_at(entry, table_entry::ZERO) != 0 {
+    if data_length == 0 || string_length > MAX_STRING || u16_at(entry, table_entry::RESERVED) != 0 {
         return None;
     }
     let data = cut(rest, data_length)?;

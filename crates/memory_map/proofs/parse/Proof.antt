@@ -12,7 +12,7 @@ use Rattle.laws.specs.Table.{listed, table}
 use Rattle.laws.specs.TableLaws.{table-more}
 use Rattle.answer.specs.declared.Answer.the-variants.{Load}
 use Rattle.memory_map.specs.declared.Pair.{Pair}
-use Rattle.memory_map.specs.declared.MemMap.{MemMap}
+use Rattle.memory_map.specs.declared.MemoryMap.{MemoryMap}
 use Rattle.memory_map.specs.Map.{maxPairs, noPair, maxMap, minPairSize, pairCount, pairAt, tooSmall, pastEnd, badMap, firstPairs}
 use Rattle.memory_map.specs.Parse.{noMap, parsedMap}
 use Rattle.memory_map.specs.Pairs.{sizeBytes, sizeAt, nextOffset, pairOffset}
@@ -28,9 +28,9 @@ record Reading (m : List ℕ) (pairs : List Pair) (n at : ℕ) : Type 0 where
   read : pairs ≡ table (λ i. pairAt m (pairOffset m i)) n maxPairs noPair
   whole : Whole m n
 
-none-read : (m : List ℕ) (e : MemMap) → e ≡ noMap → Reading m (e .pairs) 0 0
+none-read : (m : List ℕ) (e : MemoryMap) → e ≡ noMap → Reading m (e .pairs) 0 0
 unfolding pairOffset listed
-none-read m e h = record { inside = omega arith; few = omega arith; place = refl; read = ap (λ (p : MemMap). p .pairs) h; whole = whole-zero m }
+none-read m e h = record { inside = omega arith; few = omega arith; place = refl; read = ap (λ (p : MemoryMap). p .pairs) h; whole = whole-zero m }
 
 module _ (m : List ℕ) (pairs : List Pair) (n at : ℕ) (r : Reading m pairs n at) where
   -- a pair begins past the last that has room, or is broken

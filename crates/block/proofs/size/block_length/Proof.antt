@@ -13,10 +13,10 @@ use Rattle.block.proofs.size.block_length.Statement.{statement}
 use Rattle.block.proofs.size.block_length.Tie as tie
 
 abbrev Inv-loop : tie.InvT-loop
-Inv-loop extent text layout count size₀ i₀ size i = (i ≤ count) × (size ≡ stringsOffset count extent text + textsSize (stringLengths layout i))
+Inv-loop mapLength lineLength layout count size₀ i₀ size i = (i ≤ count) × (size ≡ stringsOffset count mapLength lineLength + textsSize (stringLengths layout i))
 
 abbrev μ-loop : tie.MeasureT-loop
-μ-loop extent text layout count size₀ i₀ size i = count - i
+μ-loop mapLength lineLength layout count size₀ i₀ size i = count - i
 
 -- the string of this turn has room
 room-here : (c : tie.After-m Inv-loop μ-loop)

@@ -6,13 +6,13 @@ use native.Mathlib.Nat.{min-eq-left, min-eq-right}
 use native.Mathlib.Omega.{arith}
 use borrow.Author.Needs.{needs}
 use Rattle.laws.specs.Tests.{run}
-use Rattle.memory_map.specs.declared.MemMap.{MemMap}
+use Rattle.memory_map.specs.declared.MemoryMap.{MemoryMap}
 use Rattle.usable.specs.Usable.{addressSpace, isUsable}
 use Rattle.usable.specs.Sizes.{kib, maxMemLower, memLower}
 use Rattle.usable.proofs.sizes.mem_lower.Statement.{statement}
 use Rattle.usable.proofs.sizes.mem_lower.Tie as tie
 
-module _ (m : MemMap) (n : ℕ) (e : n ≡ run (isUsable m) 0 addressSpace) where
+module _ (m : MemoryMap) (n : ℕ) (e : n ≡ run (isUsable m) 0 addressSpace) where
   less : n / kib < maxMemLower → n / kib ≡ memLower m
   unfolding memLower
   less l = rw (← e) (sym (min-eq-left (omega arith)))

@@ -9,7 +9,7 @@ use borrow.Author.Needs.{needs}
 use Rattle.laws.specs.Tests.{run}
 use Rattle.laws.specs.TestLaws.{run-is}
 use Rattle.edge.specs.PassLaws.{AllPass, pass-start, pass-on}
-use Rattle.memory_map.specs.declared.MemMap.{MemMap}
+use Rattle.memory_map.specs.declared.MemoryMap.{MemoryMap}
 use Rattle.usable.specs.MapEdge.{mapEdge}
 use Rattle.usable.specs.Usable.{addressSpace, isUsable}
 use Rattle.usable.specs.MapEdgeLaws.{map-edge-at}
@@ -23,7 +23,7 @@ ended f a x k h l q =
     (run-is f (k - a) a (x - a) l (λ y u v. h .all y u (omega (arith, h .from))) (λ u. let e : a + (x - a) ≡ x = omega (arith, h .from) in rw e (q (omega arith))))
 
 -- x is usable, and so is what lies before the edge
-further : (m : MemMap) (a x r : ℕ) → x < addressSpace → AllPass (isUsable m) a x → isUsable m x ≡ true → r ≡ mapEdge m x addressSpace → (x < r) × (r ≤ addressSpace) × AllPass (isUsable m) a r
+further : (m : MemoryMap) (a x r : ℕ) → x < addressSpace → AllPass (isUsable m) a x → isUsable m x ≡ true → r ≡ mapEdge m x addressSpace → (x < r) × (r ≤ addressSpace) × AllPass (isUsable m) a r
 further m a x r l h f q =
     let g = map-edge-at m x addressSpace l r q in
     (g .past, g .near, pass-on _ _ _ h g f)
