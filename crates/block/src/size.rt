@@ -33,7 +33,7 @@ pub(crate) fn text_size(n: usize) -> usize
     n + 1
 }
 
-// Where the parts stand in a block with `count` modules, a map of `map_length` bytes and a command line of `line_length`.
+// Where the parts stand in a block with `count` modules, a map of `map_length` and a command line of `line_length` bytes.
 pub(crate) fn part_offsets(count: usize, map_length: usize, line_length: usize) -> Offsets
     requires { ⌜ stringsOffset count «map_length» «line_length» < 2 ^ 64 ⌝ }
     ensures { λ r. ⌜ PartsStand count «map_length» «line_length» r ⌝ }
@@ -50,7 +50,7 @@ pub(crate) fn part_offsets(count: usize, map_length: usize, line_length: usize) 
     }
 }
 
-// The length of the block for the modules of a submission, a map of `map_length` bytes and a command line of `line_length`.
+// The length of the block for the modules of a submission, a map of `map_length` and a command line of `line_length` bytes.
 pub fn block_length(layout: Layout, map_length: usize, line_length: usize) -> usize
     requires { ⌜ (layout .count ≤ maxModules) × (blockLength (stringLengths layout (layout .count)) «map_length» «line_length» < 2 ^ 64) ⌝ }
     ensures { λ r. ⌜ r ≡ blockLength (stringLengths layout (layout .count)) «map_length» «line_length» ⌝ }

@@ -72,16 +72,16 @@ fn write_parts(
     requires { ⌜ StringsIn (now submission) layout × (at + partsSize (length (now map)) (length (now line)) (stringLengths layout (layout .count)) < 2 ^ 64) ⌝ }
     ensures { λ _. ⌜ now (window .exit) ≡ patched (now (window .entry)) at (partsOf (now (map .entry)) (now (line .entry)) (stringsOf (now (submission .entry)) layout (layout .count))) ⌝ }
 {
-    let name_at = at + map.len();
-    let line_at = name_at + size::NAME;
-    let strings_at = line_at + size::text_size(line.len());
+    let name_offset = at + map.len();
+    let line_offset = name_offset + size::NAME;
+    let strings_offset = line_offset + size::text_size(line.len());
     buffer::write_bytes(window, at, map);
-    buffer::write_bytes(window, name_at, b"shelf 1\0");
-    write_text(window, line_at, line);
-    write_strings(window, strings_at, submission, layout);
+    buffer::write_bytes(window, name_offset, b"shelf 1\0");
+    write_text(window, line_offset, line);
+    write_strings(window, strings_offset, submission, layout);
 }
 
-// The structure of a block with `count` modules, a map of `map_length` bytes and a command line of `line_length`.
+// The structure of a block with `count` modules, a map of `map_length` and a command line of `line_length` bytes.
 fn structure_for(
     count: usize,
     map_length: usize,

@@ -15,12 +15,12 @@ use Rattle.laws.specs.TestLaws.{and-left, and-right, all-intro, all-elim}
 use Rattle.address.specs.Address.{inside}
 use Rattle.address.specs.InsideLaws.{inside-is}
 use Rattle.usable.specs.Usable.{addressSpace, isUsable}
-use Rattle.usable.specs.UsableLaws.{UsableBy, usable-is}
+use Rattle.usable.specs.UsableLaws.{UsableOn, usable-is}
 use Rattle.board.specs.declared.Board.{Board}
 use Rattle.board.specs.Open.{isOpen}
 
 pub record OpenOn (b : Board) (a : ℕ) : Type 0 where
-  pub usable : UsableBy (b .map) a
+  pub usable : UsableOn (b .map) a
   pub window : (b .window .start .0 ≤ a) × (a < b .window .end .0)
 
 module _ (b : Board) where

@@ -1,7 +1,7 @@
 -- The definitions that the contracts of `decision` cite, and their laws. `Decision` is where to start: the order of checks.
 pub mod Decision
-pub mod Read
 pub mod Lent
+pub mod Read
 pub mod Plan
 pub mod Decided
 pub mod DecidedLaws

@@ -2,7 +2,7 @@
 pub mod Load
 pub mod Narrow
 pub mod Kernel
-pub mod Judge
 pub mod Judged
 pub mod Calculated
 pub mod JudgedLaws
+pub mod Judge

@@ -1,6 +1,6 @@
 -- Laws of the search for the lowest number that passes a test.
---     first-none, first-at              what the search answers
---     lowest, at-lowest, none-lowest    what its answer says of all numbers of the range
+--     first-none, first-at                    what the search answers
+--     first-lowest, at-lowest, none-lowest    what its answer says of all numbers of the range
 -- Assumes nothing.
 use mathlib.Core.Path.{_≡_, refl, ap, _∙_, subst}
 use mathlib.Core.Logic.{⊎-elim}
@@ -37,17 +37,17 @@ module _ (p : ℕ → Bool) where
       (omega arith, omega arith, h .2, λ s l m. ⊎-elim (λ q. rw (← q) e) (λ lt. h .3 s lt m) (eq-or-lt-of-le l))
 
   -- the search gives the lowest number that passes, and none only where no number of the range does
-  pub lowest : (k lo : ℕ) → Lowest p k lo (first p k lo)
+  pub first-lowest : (k lo : ℕ) → Lowest p k lo (first p k lo)
   unfolding first
-  lowest zero lo = λ s l m. absurd (omega arith)
-  lowest (suc k) lo =
+  first-lowest zero lo = λ s l m. absurd (omega arith)
+  first-lowest (suc k) lo =
       ⊎-elim
       (λ t. rw t (omega arith, omega arith, t, λ s l m. absurd (omega arith)))
-      (λ t. rw t (after k lo t (first p k (suc lo)) (lowest k (suc lo))))
+      (λ t. rw t (after k lo t (first p k (suc lo)) (first-lowest k (suc lo))))
       (true-or-false (p lo))
 
   pub at-lowest : (k lo a : ℕ) → first p k lo ≡ at a → Lowest p k lo (at a)
-  at-lowest k lo a e = subst (Lowest p k lo) e (lowest k lo)
+  at-lowest k lo a e = subst (Lowest p k lo) e (first-lowest k lo)
 
   pub none-lowest : (k lo : ℕ) → first p k lo ≡ none → Lowest p k lo none
-  none-lowest k lo e = subst (Lowest p k lo) e (lowest k lo)
+  none-lowest k lo e = subst (Lowest p k lo) e (first-lowest k lo)

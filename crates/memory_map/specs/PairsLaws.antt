@@ -3,7 +3,7 @@
 --     pair-on, count-begins, count-end                  where pairs begin, and that all of them count
 --     whole-more, whole-count, whole-next, whole-all    whole pairs, one more, and how many there are
 --     broken-bad, empty-bad, long-bad, many-bad         what refuses a map
---     counted-good, good-counted, good-is               a map is accepted exactly where it keeps all its rules
+--     counted-good, good-counted, map-good-is           a map is accepted exactly where it keeps all its rules
 --     good-some, good-fills                             an accepted map has a pair, and its pairs fill it
 --     map-refuses                                       the check on it refuses
 --     parsed-bad, parsed-good, load-good                what reading a map answers
@@ -187,8 +187,8 @@ module _ (m : List ℕ) where
       (lt-or-le i (pairCount m))
 
   -- the rules of a map, as a test and pair by pair
-  pub good-is : (badMap m ≡ false) ↔ GoodMap m
-  good-is = (
+  pub map-good-is : (badMap m ≡ false) ↔ GoodMap m
+  map-good-is = (
     λ t.
         let g = good-counted t in
         record {

@@ -39,7 +39,7 @@ use Rattle.decision.specs.Plan.{noPlan}
 use Rattle.decision.specs.Decision.{planIn, decisionOf}
 use Rattle.loader.specs.LoadLaws.{Loads, loads, span-inside, kernel-span, one-segment, module-span, block-span, modules-past}
 use Rattle.loader.specs.WriteLaws.{spans-low}
-use Rattle.theorems.specs.AnsweredLaws.{load-is, load-plan, refusal-plan, room-item}
+use Rattle.theorems.specs.AnsweredLaws.{number-load, load-plan, refusal-plan, room-item}
 use Rattle.viertompu.specs.Joined.{joined}
 use Rattle.viertompu.specs.JoinedLaws.{length-joined}
 use Rattle.viertompu.specs.Words.{headWords, segmentWords, moduleWords, segmentsWords, modulesWords, planWords}
@@ -266,7 +266,7 @@ item-low x =
 
 module _ (x : Lent) (e : numberOf (decisionOf x .answer) ≡ 0) where
   good : GoodPlan (decisionOf x .plan) (moduleCount (x .submission))
-  good = rw (load-plan x e) (good-plan x (loads x (load-is x e)))
+  good = rw (load-plan x e) (good-plan x (loads x (number-load x e)))
 
   load-item : itemOf (decisionOf x .answer) ≡ 0
   load-item = item-none (decisionOf x .answer) (λ n. omega arith)

@@ -138,8 +138,8 @@ module _ (s : List ℕ) where
       )
       refl
 
-  pub good-is : (rulesHold s ≡ true) ↔ GoodSubmission s
-  good-is = (rules-good, good-rules)
+  pub submission-good-is : (rulesHold s ≡ true) ↔ GoodSubmission s
+  submission-good-is = (rules-good, good-rules)
 
   -- an accepted submission keeps them
   pub good-submission : passes (submissionChecks s) ≡ true → GoodSubmission s

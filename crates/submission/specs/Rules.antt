@@ -23,7 +23,7 @@ maxLine = 255
 abbrev pub maxString : ℕ
 maxString = 127
 
--- at least the header's 12 bytes, the mark, and version 1
+-- at least the prefix's 12 bytes, the mark, and version 1
 unfoldable pub isSubmission : List ℕ → Bool
 isSubmission s = leb prefixSize (length s) && sameBytes (take 3 s) mark && eqb (version s) 1
 

@@ -9,10 +9,10 @@ mod read;
 mod rules;
 pub mod scan;
 
-// The header's size.
+// The size of the prefix, which stands before the table of modules.
 pub(crate) const PREFIX: usize = 12;
 
-// The size of a module's entry in the table behind the header.
+// The size of a module's entry in the table behind the prefix.
 pub(crate) const TABLE_ENTRY: usize = 8;
 
 // At most so many modules.

@@ -25,7 +25,7 @@ pub(crate) struct TableEntry {
     pub reserved: u16,
 }
 
-// How many modules the header announces.
+// How many modules the prefix announces.
 pub(crate) fn module_count(s: &[u8]) -> usize
     ensures { λ r. ⌜ (r ≡ moduleCount (now (s .entry))) × (r < 2 ^ 8) ⌝ }
 {

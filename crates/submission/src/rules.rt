@@ -15,7 +15,7 @@ use crate::read;
 use crate::read::TableEntry;
 use crate::scan;
 
-// Whether the header is there, with the mark and version 1.
+// Whether the prefix is there, with the mark and version 1.
 pub(crate) fn is_submission(s: &[u8]) -> bool
     ensures { λ r. ⌜ r ≡ isSubmission (now (s .entry)) ⌝ }
 {

@@ -1,8 +1,8 @@
 -- The first promise: each answer exactly on its condition.
---     holdsIn               whether the condition of a refusal holds
---     conditions            what these conditions say
---     answered              for all that is lent
---     load-is, load-plan    the number 0 is a load, and gives its plan
+--     holdsIn                   whether the condition of a refusal holds
+--     conditions                what these conditions say
+--     answered                  for all that is lent
+--     number-load, load-plan    the number 0 is a load, and gives its plan
 -- Assumes nothing.
 use mathlib.Core.Path.{_≡_, refl, sym, ap, _∙_}
 use mathlib.Core.Bool.{Bool, true, false, not, false≢true, _&&_, _||_}
@@ -25,7 +25,7 @@ use Rattle.submission.specs.ScanLaws.{no-zero, zero-free}
 use Rattle.submission.specs.Layout.{layoutOf}
 use Rattle.submission.specs.Rules.{maxLine, isSubmission, rulesHold, submissionChecks}
 use Rattle.submission.specs.GoodSubmission.{NoZero, GoodSubmission}
-use Rattle.submission.specs.RuleLaws.{marked-is, good-is}
+use Rattle.submission.specs.RuleLaws.{marked-is, submission-good-is}
 use Rattle.submission.specs.Format.{moduleCount}
 use Rattle.command_line.specs.CommandLine.{operatorChecks}
 use Rattle.header.specs.declared.Search.{Search}
@@ -36,7 +36,7 @@ use Rattle.header.specs.HeaderLaws.{header-none, none-header, lowest-header}
 use Rattle.image.specs.Load.{flagsAt, fieldsAt, loadOffset, loadLength, loadEnd, fullHeader}
 use Rattle.image.specs.Judged.{noHeader, offsetOf, unknownRequest, noAddresses, cutOff, beforeImage, nothingLeft, pastImage, bssBelow, entryOutside, headerOffset, headerChecks, loadChecks, imageChecks}
 use Rattle.memory_map.specs.Map.{badMap, mapChecks}
-use Rattle.memory_map.specs.PairsLaws.{good-is as map-good-is}
+use Rattle.memory_map.specs.PairsLaws.{map-good-is}
 use Rattle.board.specs.Window.{windowChecks}
 use Rattle.decision.specs.Lent.{Lent}
 use Rattle.decision.specs.Read.{imageIn}
@@ -125,7 +125,7 @@ module _ (x : Lent) where
   conditions =
       record {
         c1 = not-is (isSubmission (x .submission)) (marked-is (x .submission));
-        c2 = not-is (rulesHold (x .submission)) (good-is (x .submission));
+        c2 = not-is (rulesHold (x .submission)) (submission-good-is (x .submission));
         c3 = false-is (ltb maxLine (length (x .operator)) || hasZero (x .operator)) (operator-is (x .operator));
         c4 = ltb-is top (x .first + x .size);
         c5 = false-is (badMap (x .map)) (map-good-is (x .map));
@@ -137,20 +137,20 @@ module _ (x : Lent) where
   unfolding numberedFrom checks lentChecks submissionChecks operatorChecks windowChecks mapChecks headerChecks loadChecks imageChecks kernelChecks roomChecks
   numbered = refl
 
-  pub answer-is : decisionOf x .answer ≡ answerOf x
+  pub decided-answer : decisionOf x .answer ≡ answerOf x
   unfolding decisionOf decidedBy
-  answer-is = refl
+  decided-answer = refl
 
-  pub load-is : numberOf (decisionOf x .answer) ≡ 0 → isLoad (answerOf x) ≡ true
-  load-is e = eq-eqb _ _ (ap numberOf (sym answer-is) ∙ e)
+  pub number-load : numberOf (decisionOf x .answer) ≡ 0 → isLoad (answerOf x) ≡ true
+  number-load e = eq-eqb _ _ (ap numberOf (sym decided-answer) ∙ e)
 
   -- a load gives its plan
   pub load-plan : numberOf (decisionOf x .answer) ≡ 0 → decisionOf x .plan ≡ planIn x
   unfolding decisionOf decidedBy
-  load-plan e = rw (load-is e)
+  load-plan e = rw (number-load e)
 
   not-load : (numberOf (decisionOf x .answer) ≡ 0 → ⊥) → isLoad (answerOf x) ≡ false
-  not-load h = ne-eqb _ _ (λ e. h (ap numberOf answer-is ∙ e))
+  not-load h = ne-eqb _ _ (λ e. h (ap numberOf decided-answer ∙ e))
 
   pub refusal-plan : (numberOf (decisionOf x .answer) ≡ 0 → ⊥) → decisionOf x .plan ≡ noPlan
   unfolding decisionOf decidedBy
@@ -164,27 +164,27 @@ module _ (x : Lent) where
   refusal-is : (k : ℕ) → 1 ≤ k → (numberOf (decisionOf x .answer) ≡ k) ↔ ((holdsIn x k ≡ true) × ((j : ℕ) → 1 ≤ j → j < k → holdsIn x j ≡ false))
   refusal-is k l = (
     λ h.
-        let f = number-first 1 (omega arith) (checks x) (k - 1) numbered (ap numberOf (sym answer-is) ∙ h ∙ omega arith) in
+        let f = number-first 1 (omega arith) (checks x) (k - 1) numbered (ap numberOf (sym decided-answer) ∙ h ∙ omega arith) in
         (f .applies, λ j m n. f .earliest (j - 1) (omega arith)),
     λ h.
         let f : First (checks x) (k - 1) = record { applies = h .0; earliest = λ j m. let e : j + 1 - 1 ≡ j = omega arith in rw e at (h .1 (j + 1) (omega arith) (omega arith)) } in
-        ap numberOf answer-is ∙ number-given 1 (checks x) (k - 1) numbered f ∙ omega arith,
+        ap numberOf decided-answer ∙ number-given 1 (checks x) (k - 1) numbered f ∙ omega arith,
   )
 
   none-is : (numberOf (decisionOf x .answer) ≡ 0) ↔ ((k : ℕ) → 1 ≤ k → holdsIn x k ≡ false)
   none-is = (
-    λ h k l. none-applies 1 (omega arith) (checks x) numbered (ap numberOf (sym answer-is) ∙ h) (k - 1),
-    λ h. ap numberOf answer-is ∙ none-given (checks x) (λ k. let e : k + 1 - 1 ≡ k = omega arith in rw e at (h (k + 1) (omega arith))),
+    λ h k l. none-applies 1 (omega arith) (checks x) numbered (ap numberOf (sym decided-answer) ∙ h) (k - 1),
+    λ h. ap numberOf decided-answer ∙ none-given (checks x) (λ k. let e : k + 1 - 1 ≡ k = omega arith in rw e at (h (k + 1) (omega arith))),
   )
 
   -- 16 has the index of a module for its item
   pub room-item : numberOf (decisionOf x .answer) ≡ 16 → (itemOf (decisionOf x .answer) ≡ placedIn x .done) × (placedIn x .done < moduleCount (x .submission)) × GoodSubmission (x .submission)
   unfolding checks lentChecks submissionChecks operatorChecks windowChecks mapChecks headerChecks loadChecks imageChecks kernelChecks roomChecks layoutOf
   room-item e =
-      let f = number-first 1 (omega arith) (checks x) 15 numbered (ap numberOf (sym answer-is) ∙ e) in (
-        ap itemOf (answer-is ∙ first-answer (checks x) 15 f),
+      let f = number-first 1 (omega arith) (checks x) 15 numbered (ap numberOf (sym decided-answer) ∙ e) in (
+        ap itemOf (decided-answer ∙ first-answer (checks x) 15 f),
         ltb-true _ _ (f .applies),
-        good-is (x .submission) .0 (not-false _ (f .earliest 1 (omega arith))),
+        submission-good-is (x .submission) .0 (not-false _ (f .earliest 1 (omega arith))),
       )
 
   pub answered : (w : List ℕ) → Answered (decisionOf x) w (memoryAfter x w) (holdsIn x)

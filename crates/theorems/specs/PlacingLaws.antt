@@ -49,7 +49,7 @@ use Rattle.decision.specs.PlacedLaws.{load-in-order}
 use Rattle.decision.specs.StageLaws.{kernel-refuses}
 use Rattle.loader.specs.LoadLaws.{Loads, module-span, block-span, span-apart, one-segment, loads, all-done, modules-past}
 use Rattle.theorems.specs.SizeLaws.{block-size}
-use Rattle.theorems.specs.AnsweredLaws.{holdsIn, answer-is, load-is, load-plan}
+use Rattle.theorems.specs.AnsweredLaws.{holdsIn, decided-answer, number-load, load-plan}
 use Rattle.theorems.specs.Promises.{Open, blockSize, Planned, Placing, OnMemory}
 
 -- what the checks of the room answer
@@ -170,7 +170,7 @@ module _ (x : Lent) (r : (k : ℕ) → 1 ≤ k → k < 15 → holdsIn x k ≡ fa
     room-answer : decisionOf x .answer ≡ firstOf (roomChecks (placedIn x .done) (layoutIn x .count)) Load
     unfolding checks
     room-answer =
-        answer-is x
+        decided-answer x
         ∙ rw (chain-append (lentChecks x) (memoryChecks (boardIn x) (kernelIn x) (layoutIn x) (blockLengthIn x)) (lent-refuses x))
         (or-else-second _ _ lent-load
         ∙ chain-append (kernelChecks (boardIn x) (kernelIn x)) (roomChecks (placedIn x .done) (layoutIn x .count)) (kernel-refuses (boardIn x) (kernelIn x))
@@ -232,7 +232,7 @@ module _ (x : Lent) (r : (k : ℕ) → 1 ≤ k → k < 15 → holdsIn x k ≡ fa
 
     load-planned : numberOf (decisionOf x .answer) ≡ 0 → (placedIn x .done ≡ moduleCount (x .submission) + 1) × Planned x (kernelIn x) (placedIn x .spans .list) (decisionOf x .plan)
     load-planned e =
-        let h = loads x (load-is x e) in
+        let h = loads x (number-load x e) in
         (all-done x h ∙ omega (arith, layout-count (x .submission)), rw (load-plan x e) (planned h))
 
     places : Placing x (kernelIn x) (decisionOf x)

@@ -10,7 +10,7 @@ use Rattle.decision.specs.Decision.{decisionOf}
 use Rattle.loader.specs.Memory.{memoryAfter}
 use Rattle.loader.specs.LoadLaws.{loads}
 use Rattle.theorems.specs.Promises.{Promised}
-use Rattle.theorems.specs.AnsweredLaws.{holdsIn, conditions, answered, load-is, load-plan}
+use Rattle.theorems.specs.AnsweredLaws.{holdsIn, conditions, answered, number-load, load-plan}
 use Rattle.theorems.specs.WrittenLaws.{written-bytes}
 use Rattle.theorems.specs.ReadBackLaws.{read-back}
 use Rattle.theorems.specs.PlacingLaws.{on-memory}
@@ -22,6 +22,6 @@ promised x w n =
       conditions = conditions x;
       answered = answered x w;
       memory = on-memory x;
-      written = λ e. rw (load-plan x e) (written-bytes x (loads x (load-is x e)) w n (load-is x e));
-      readBack = λ e. rw (load-plan x e) (read-back x (loads x (load-is x e)) w n (load-is x e));
+      written = λ e. rw (load-plan x e) (written-bytes x (loads x (number-load x e)) w n (number-load x e));
+      readBack = λ e. rw (load-plan x e) (read-back x (loads x (number-load x e)) w n (number-load x e));
     }

@@ -1,6 +1,6 @@
 -- Usable addresses in propositions.
 --     covers-is              a pair covers the addresses from its base up to base + length, which never wraps: covers-exact
---     UsableBy, usable-is    some pair of type 1 covers the address below 2^32, and no pair of another type does
+--     UsableOn, usable-is    some pair of type 1 covers the address below 2^32, and no pair of another type does
 --     usable-bytes           the same by the bytes of the map
 -- Assumes nothing.
 use mathlib.Core.List.{List}
@@ -34,7 +34,7 @@ pub covers-exact : covers (record { base = 2 ^ 64 - 1; length = 2; kind = ram })
 unfolding covers inside
 covers-exact = refl
 
-pub record UsableBy (m : MemoryMap) (a : ℕ) : Type 0 where
+pub record UsableOn (m : MemoryMap) (a : ℕ) : Type 0 where
   pub below : a < addressSpace
   pub some : (i : ℕ) × (i < m .count) × (pairNo m i .kind ≡ ram) × Covers (pairNo m i) a
   pub none : (i : ℕ) → i < m .count → (pairNo m i .kind ≡ ram → ⊥) → Covers (pairNo m i) a → ⊥
@@ -56,7 +56,7 @@ module _ (m : MemoryMap) (a : ℕ) where
         λ h. rw (ne-eqb _ _ (h .0), covers-is (pairNo m i) a .1 (h .1)),
       )
 
-  pub usable-is : (isUsable m a ≡ true) ↔ UsableBy m a
+  pub usable-is : (isUsable m a ≡ true) ↔ UsableOn m a
   unfolding isUsable
   usable-is =
       let A : Bool = ltb a addressSpace in
@@ -83,7 +83,7 @@ module _ (m : List ℕ) (a : ℕ) where
   pair-is : (i : ℕ) → i < pairCount m → pairNo (mapOf m) i ≡ pairAt m (pairOffset m i)
   pair-is i l = pair-listed m (pairCount m) i l
 
-  pub usable-bytes : UsableBy (mapOf m) a ↔ Usable m a
+  pub usable-bytes : UsableOn (mapOf m) a ↔ Usable m a
   unfolding pairAt firstPairs
   usable-bytes = (
     λ u.

@@ -11,17 +11,17 @@ use Rattle.block.proofs.TurnLaws.{parts-written}
 use Rattle.block.proofs.write.write_parts.Statement.{statement}
 use Rattle.block.proofs.write.write_parts.Tie as tie
 
-add-name-at : tie.Need-add-name-at
-add-name-at c = search needs
+add-name-offset : tie.Need-add-name-offset
+add-name-offset c = search needs
 
-add-line-at : tie.Need-add-line-at
-add-line-at c = search needs
+add-line-offset : tie.Need-add-line-offset
+add-line-offset c = search needs
 
 text-size-requires : tie.Need-text-size-requires
 text-size-requires c κs = search needs
 
-add-strings-at : tie.Need-add-strings-at
-add-strings-at c = search needs
+add-strings-offset : tie.Need-add-strings-offset
+add-strings-offset c = search needs
 
 write-bytes-requires : tie.Need-write-bytes-requires
 write-bytes-requires c κs = search needs
@@ -55,10 +55,10 @@ pub write-parts-spec : {M : Type 1} → statement M
 write-parts-spec =
     tie.close
     (tie.spec
-    add-name-at
-    add-line-at
+    add-name-offset
+    add-line-offset
     text-size-requires
-    add-strings-at
+    add-strings-offset
     write-bytes-requires
     slice-aggregate-write-bytes
     write-bytes-requires-2
