@@ -48,11 +48,11 @@ unfolding imageChecks headerChecks
 no-header image e = refusal-is NoHeader image refl (rw e (search chain depth 20))
 
 -- a header was found, and its flags were read
-pub record Found (image : List ℕ) (at : ImageOffset) (flags : ℕ) : Type 0 where
+pub record FlagsFound (image : List ℕ) (at : ImageOffset) (flags : ℕ) : Type 0 where
   pub found : header image ≡ At at
   pub read : flags ≡ flagsAt image (at .0)
 
-module _ {image : List ℕ} {at : ImageOffset} {flags : ℕ} (r : Found image at flags) where
+module _ {image : List ℕ} {at : ImageOffset} {flags : ℕ} (r : FlagsFound image at flags) where
   pub unknown-request : unknownRequest flags ≡ true → refused UnknownRequest ≡ judged image
   unfolding imageChecks headerChecks
   unknown-request t = refusal-is UnknownRequest image refl (rw (r .found, ← r .read) (search chain depth 20))
@@ -66,14 +66,14 @@ module _ {image : List ℕ} {at : ImageOffset} {flags : ℕ} (r : Found image at
   cut-off u v t = refusal-is HeaderCutOff image refl (rw (r .found, ← r .read) (search chain depth 20))
 
 -- its address fields h stand in the image and were read
-pub record Whole (image : List ℕ) (at : ImageOffset) (flags : ℕ) (h : AddressFields) : Type 0 where
-  pub header : Found image at flags
+pub record WholeHeader (image : List ℕ) (at : ImageOffset) (flags : ℕ) (h : AddressFields) : Type 0 where
+  pub header : FlagsFound image at flags
   pub known : unknownRequest flags ≡ false
   pub addresses : noAddresses flags ≡ false
   pub whole : cutOff (at .0) (length image) ≡ false
   pub read : h ≡ fieldsAt image (at .0)
 
-module _ {image : List ℕ} {at : ImageOffset} {flags : ℕ} {h : AddressFields} (w : Whole image at flags h) (r : Search) (offset : r ≡ cond (beforeImage h (at .0)) Nothing (At (record { 0 = loadOffset h (at .0) }))) where
+module _ {image : List ℕ} {at : ImageOffset} {flags : ℕ} {h : AddressFields} (w : WholeHeader image at flags h) (r : Search) (offset : r ≡ cond (beforeImage h (at .0)) Nothing (At (record { 0 = loadOffset h (at .0) }))) where
   pub before-image : r ≡ Nothing → refused LoadBeforeImage ≡ judged image
   unfolding imageChecks headerChecks
   before-image none =

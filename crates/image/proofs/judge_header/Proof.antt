@@ -9,14 +9,14 @@ use Rattle.header.specs.Header.{searchLimit, shortHeader}
 use Rattle.header.specs.HeaderLaws.{header-lowest}
 use Rattle.image.specs.JudgedLaws.{not-cut-off}
 use Rattle.image.proofs.TestLaws.{told}
-use Rattle.image.proofs.RefusalLaws.{Found, Whole, unknown-request, no-addresses, cut-off, before-image, load-left, offset-below}
+use Rattle.image.proofs.RefusalLaws.{FlagsFound, WholeHeader, unknown-request, no-addresses, cut-off, before-image, load-left, offset-below}
 use Rattle.image.proofs.judge_header.Statement.{statement}
 use Rattle.image.proofs.judge_header.Tie as tie
 
 inside : (c : tie.Start) → (c .args .at .0 + shortHeader ≤ length (c .args .image .now)) × (c .args .at .0 + shortHeader ≤ searchLimit)
 inside c = let h = header-lowest (c .args .image .now) (c .args .at) (c .pre) .0 in (h .whole, h .early)
 
-found : (c : tie.After-read-u32) → Found (c .before .before .args .image .now) (c .before .before .args .at) (c .read-u32 .result)
+found : (c : tie.After-read-u32) → FlagsFound (c .before .before .args .image .now) (c .before .before .args .at) (c .read-u32 .result)
 found c = record { found = c .before .before .pre; read = c .read-u32 .ensures }
 
 abbrev flags-read : tie.After-read-fields → tie.After-read-u32
@@ -25,7 +25,7 @@ flags-read c = c .before .before .before .before .before .before .before
 abbrev start : tie.After-read-fields → tie.Start
 start c = flags-read c .before .before
 
-whole : (c : tie.After-read-fields) → Whole (start c .args .image .now) (start c .args .at) (flags-read c .read-u32 .result) (c .read-fields .result)
+whole : (c : tie.After-read-fields) → WholeHeader (start c .args .image .now) (start c .args .at) (flags-read c .read-u32 .result) (c .read-fields .result)
 whole c =
     let third = c .before in
     let second = third .before .before in
