@@ -1,0 +1,51 @@
+//! What holds loaders against each other, and each against the rules.
+//!
+//! - [`same`], [`sound`]: two outcomes of a case are one; an outcome is right by itself
+//! - [`handover`]: reads a finished load as a kernel would, and finds every byte accounted for
+//! - [`by_address`]: an outcome is what the address-by-address model says
+//! - [`coverage`]: how often each number came, each rule was broken and each goal was reached
+//! - [`printed`]: what the review program prints for a submission
+
+pub mod by_address;
+pub mod coverage;
+pub mod handover;
+pub mod printed;
+
+use crate::input::case::Case;
+use crate::loaders::Outcome;
+use crate::rules::{reachable_numbers, words};
+use viertompu::read_words;
+
+/// Says where two outcomes of a case first differ.
+pub fn same(case: &Case, one: &Outcome, other: &Outcome) -> Result<(), String> {
+    if one.words != other.words {
+        let both = one.words.iter().zip(&other.words);
+        let index = both.take_while(|(a, b)| a == b).count();
+        let (a, b) = (one.words[index], other.words[index]);
+        return Err(format!("word {index} is {a:08X} and {b:08X}"));
+    }
+    if one.window != other.window {
+        let both = one.window.iter().zip(&other.window);
+        let offset = both.take_while(|(a, b)| a == b).count();
+        let address = u64::from(case.first) + offset as u64;
+        return Err(format!("the windows differ at address {address:08X}"));
+    }
+    Ok(())
+}
+
+/// Is the outcome right by itself? A refusal leaves an all-zero plan and the window as it was;
+/// a load hands over what the submission holds.
+pub fn sound(case: &Case, outcome: &Outcome) -> Result<(), String> {
+    if !reachable_numbers().any(|number| number == outcome.words[0]) {
+        return Err("no such number".into());
+    }
+    let decision = read_words(&outcome.words);
+    if words(&decision) != outcome.words {
+        return Err("stray words".into());
+    }
+    match decision {
+        Ok(plan) => handover::check(case, &plan, outcome),
+        Err(_) if outcome.window != case.window => Err("a refusal wrote the window".into()),
+        Err(_) => Ok(()),
+    }
+}

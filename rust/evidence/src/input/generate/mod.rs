@@ -1,0 +1,262 @@
+//! Seeded inputs: sound ones on boards of all kinds, nudged ones and damaged ones. A case depends
+//! on its seed and index alone.
+
+mod board;
+mod damage;
+
+use crate::input::case::Case;
+use crate::input::draft::{Draft, Header, Module};
+use crate::input::pair::Pair;
+use crate::input::review_board;
+use crate::input::rng::Rng;
+use crate::rules::limits::{
+    ADDRESS_FIELDS, FLOOR, FULL_HEADER, LOADER_NAME, MAX_LINE, MAX_MAP, MAX_MODULES, MAX_PAIRS,
+    MAX_STRING, MIN_PAIR_SIZE, MODULE_ENTRY, PAGE, PAGE_ALIGNED, SEARCH_LIMIT, SHORT_HEADER,
+    STRUCTURE, WORD,
+};
+use crate::rules::Item;
+use board::{Board, Needs};
+
+/// The length of images that are longer than the part searched for a header.
+const LONG_IMAGE: usize = 9000;
+
+type MakeBoard = fn(&mut Rng, &Needs) -> Board;
+
+/// The case of an index in the run of a seed.
+pub fn case(seed: u64, index: u64) -> Case {
+    let mut rng = Rng::of_case(seed, index);
+    let boards: [MakeBoard; 4] = [board::fitted, board::fitted, board::roomy, board::scattered];
+    let make = if rng.one_in(400) { board::from_zero } else { rng.pick(&boards) };
+    let mut draft = sound(&mut rng, make);
+    let name = format!("seed {seed} index {index}");
+    match rng.below(20) {
+        0..=10 => draft.case(name),
+        11 => {
+            damage::nudge(&mut rng, &mut draft);
+            draft.case(name)
+        }
+        12..=16 => damage::damaged(&mut rng, draft, &damage::all(), 1, name),
+        17 => damage::damaged(&mut rng, draft, &damage::all(), 2, name),
+        _ => {
+            let mut case = draft.case(name);
+            damage::scramble(&mut rng, &mut case);
+            case
+        }
+    }
+}
+
+/// The submission of an index, made for the review program's board.
+pub fn review_submission(seed: u64, index: u64) -> Vec<u8> {
+    let mut rng = Rng::of_case(seed, index);
+    let draft = sound(&mut rng, review_board);
+    let times = rng.below(2) as usize;
+    let damages = damage::of_submission();
+    damage::damaged(&mut rng, draft, &damages, times, String::new()).submission
+}
+
+fn review_board(rng: &mut Rng, _: &Needs) -> Board {
+    Board {
+        pairs: review_board::pairs().to_vec(),
+        load_addr: FLOOR + rng.pick(&[0, 0, 0, 4, 0x1000, 0xB_F00]),
+        window: review_board::case(&[]).addresses(),
+    }
+}
+
+/// A draft that breaks no rule before check 15.
+fn sound(rng: &mut Rng, make: MakeBoard) -> Draft {
+    let shape = KernelShape::new(rng);
+    let flags = flags(rng);
+    let modules = modules(rng, flags & PAGE_ALIGNED != 0);
+    let line = text(rng, MAX_LINE);
+    let operator = text(rng, MAX_LINE);
+    let sizes = pair_sizes(rng, modules.len());
+    let boundary = if flags & PAGE_ALIGNED != 0 { PAGE } else { WORD };
+    let in_force = if operator.is_empty() { &line } else { &operator };
+    let item = |module: &Module| Item { length: module.data.len() as u64, boundary };
+    let mut items: Vec<_> = modules.iter().map(item).collect();
+    items.push(Item { length: block_length(&sizes, in_force, &modules), boundary: WORD });
+    let needs =
+        Needs { kernel: shape.load_length + shape.bss.unwrap_or(0), items, pairs: sizes.len() };
+    let board = make(rng, &needs);
+    Draft {
+        filler: filler(rng, shape.image_length),
+        header: shape.header(flags, board.load_addr),
+        decoys: decoys(rng, shape.header_offset),
+        modules,
+        line,
+        operator,
+        pairs: sized(&board.pairs, &sizes),
+        first: board.window.start as u32,
+        window: board.window.end.saturating_sub(board.window.start) as usize,
+        pattern: rng.below(255) as usize,
+    }
+}
+
+fn sized(pairs: &[Pair], sizes: &[u32]) -> Vec<Pair> {
+    let with_size = |(&pair, &size)| Pair { size, ..pair };
+    pairs.iter().zip(sizes).map(with_size).collect()
+}
+
+/// The lengths and offsets of a kernel, before it has an address.
+struct KernelShape {
+    image_length: usize,
+    header_offset: usize,
+    /// how far before the header the load begins
+    back: u64,
+    load_length: u64,
+    end_given: bool,
+    bss: Option<u64>,
+    entry: u64,
+}
+
+impl KernelShape {
+    fn new(rng: &mut Rng) -> Self {
+        let last = (SEARCH_LIMIT - FULL_HEADER) as u64;
+        let header_offset = match rng.below(24) {
+            0..=7 => 0,
+            8..=20 => 4 * rng.below(16),
+            21 => 4 * rng.below(500),
+            22 => last,
+            _ => 4 * rng.below(last / 4 + 1),
+        };
+        let some = rng.below(300);
+        let behind = rng.pick(&[0, 0, 1, 8, some / 4, some, LONG_IMAGE as u64 - header_offset]);
+        let image_length = header_offset + FULL_HEADER as u64 + behind;
+        let part = rng.below(header_offset + 1);
+        let back = rng.pick(&[header_offset, header_offset, 0, part]);
+        let most = image_length - (header_offset - back);
+        let part = 1 + rng.below(most);
+        let load_length = rng.pick(&[most, most, part]);
+        let within = rng.below(load_length);
+        let some = rng.below(3000);
+        KernelShape {
+            image_length: image_length as usize,
+            header_offset: header_offset as usize,
+            back,
+            load_length,
+            end_given: load_length < most || rng.one_in(2),
+            bss: rng.pick(&[None, None, Some(0), Some(1), Some(some / 20), Some(some)]),
+            entry: rng.pick(&[0, load_length - 1, within]),
+        }
+    }
+
+    fn header(&self, flags: u32, load_addr: u64) -> Header {
+        let load_end = load_addr + self.load_length;
+        Header {
+            offset: self.header_offset,
+            flags,
+            header_addr: (load_addr + self.back) as u32,
+            load_addr: load_addr as u32,
+            load_end_addr: if self.end_given { load_end as u32 } else { 0 },
+            bss_end_addr: self.bss.map_or(0, |bss| (load_end + bss) as u32),
+            entry_addr: (load_addr + self.entry) as u32,
+            ..Header::default()
+        }
+    }
+}
+
+/// Bit 16 and any of the bits a loader must know or may ignore. High flags make the header's sum
+/// 2^33 rather than 2^32.
+fn flags(rng: &mut Rng) -> u32 {
+    let any = rng.next_u64() as u32 & 0xFFFE_0000;
+    let ignored = rng.pick(&[0, 0, 0, any, 0xFFFE_0000]);
+    ignored | ADDRESS_FIELDS | rng.below(4) as u32
+}
+
+/// Up to 16 modules; fewer where they take whole pages.
+fn modules(rng: &mut Rng, pages: bool) -> Vec<Module> {
+    let most = MAX_MODULES as u64;
+    let count = match rng.below(8) {
+        0 if !pages || rng.one_in(4) => rng.pick(&[12, 13, 14, 15, most, most]),
+        1 if !pages || rng.one_in(4) => rng.below(most + 1),
+        2 | 3 => 0,
+        _ => rng.below(4),
+    };
+    (0..count).map(|_| module(rng)).collect()
+}
+
+fn module(rng: &mut Rng) -> Module {
+    let length = match rng.below(20) {
+        0..=11 => 1 + rng.below(40),
+        12..=14 => rng.pick(&[1, 3, 4, 5]),
+        15 => rng.pick(&[4095, 4096, 4097]),
+        16..=18 => 1 + rng.below(600),
+        _ if rng.one_in(100) => 1 + rng.below(200_000),
+        _ => 1 + rng.below(3000),
+    };
+    Module { data: rng.bytes(length as usize), string: text(rng, MAX_STRING) }
+}
+
+/// A text of up to `most` bytes, often empty.
+fn text(rng: &mut Rng, most: usize) -> Vec<u8> {
+    let length = match rng.below(16) {
+        0..=7 => 0,
+        8..=13 => rng.below(12),
+        14 => rng.below(most as u64 + 1),
+        _ => most as u64,
+    };
+    rng.text(length as usize)
+}
+
+/// The sizes of a map's pairs, enough of them for the kernel and each item to have one.
+fn pair_sizes(rng: &mut Rng, modules: usize) -> Vec<u32> {
+    let least = modules as u64 + 3;
+    let count = match rng.below(24) {
+        0 => MAX_PAIRS as u64,
+        _ => (least + rng.below(5)).min(MAX_PAIRS as u64),
+    };
+    let least_size = MIN_PAIR_SIZE as u32;
+    let mut size = || match rng.below(4) {
+        0 => least_size + rng.below(30) as u32,
+        _ => least_size,
+    };
+    let mut sizes: Vec<u32> = (0..count).map(|_| size()).collect();
+    if rng.one_in(60) {
+        sizes[0] += MAX_MAP as u32 - map_length(&sizes);
+    }
+    sizes
+}
+
+/// The length of a map with pairs of these sizes.
+fn map_length(sizes: &[u32]) -> u32 {
+    sizes.iter().map(|size| size + 4).sum()
+}
+
+/// The information block's length.
+fn block_length(sizes: &[u32], line: &[u8], modules: &[Module]) -> u64 {
+    let text_size = |text: &[u8]| text.len() + usize::from(!text.is_empty());
+    let map = u64::from(map_length(sizes));
+    let strings: usize = modules.iter().map(|module| text_size(&module.string)).sum();
+    let texts = text_size(LOADER_NAME) + text_size(line) + strings;
+    STRUCTURE + MODULE_ENTRY * modules.len() as u64 + map + texts as u64
+}
+
+fn filler(rng: &mut Rng, length: usize) -> Vec<u8> {
+    if rng.one_in(4) {
+        return vec![0; length];
+    }
+    rng.bytes(length)
+}
+
+/// Places before the header for a magic that does not count.
+fn decoys(rng: &mut Rng, header: usize) -> Vec<usize> {
+    if header < 2 * SHORT_HEADER || rng.one_in(2) {
+        return Vec::new();
+    }
+    let at = rng.below((header - SHORT_HEADER) as u64) as usize;
+    vec![rng.pick(&[0, at, at / 4 * 4])]
+}
+
+#[cfg(test)]
+mod tests {
+    use super::*;
+
+    #[test]
+    fn any_damages_go_together() {
+        for index in 0..20_000 {
+            let mut rng = Rng::of_case(1, index);
+            let draft = sound(&mut rng, board::roomy);
+            damage::damaged(&mut rng, draft, &damage::all(), 8, String::new());
+        }
+    }
+}

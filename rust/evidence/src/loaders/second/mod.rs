@@ -1,0 +1,155 @@
+//! The second loader: checks in the order of their numbers, placing by sets of spans, and the
+//! window written only after every check has passed.
+//!
+//! Physical addresses are plain `u64`; offsets in the image are `kernel::ImageOffset`.
+
+mod block;
+mod kernel;
+mod memory_map;
+mod spans;
+mod submission;
+
+use crate::input::case::Case;
+use crate::rules::limits::{BOOT_MAGIC, MAX_LINE, MAX_MODULES, PAGE, TOP, WORD};
+use crate::rules::{words, Decision, Item};
+use block::Block;
+use kernel::Kernel;
+use memory_map::MemoryMap;
+use spans::{Span, SpanSet};
+use std::ops::Range;
+use submission::Submission;
+use viertompu::{Plan, Refusal, Segment, Words, MAX_SEGMENTS};
+
+/// Loads the case into the window, or refuses and leaves the window as it was.
+pub fn load(case: &Case, window: &mut [u8]) -> Words {
+    let decision: Decision = examine(case).and_then(|examined| {
+        let placed = place(&examined)?;
+        write(&examined, &placed, window);
+        Ok(plan_of(&examined, &placed))
+    });
+    words(&decision)
+}
+
+/// What is to be loaded: everything known before the kernel meets the board.
+struct Examined<'a> {
+    kernel: Kernel<'a>,
+    submission: Submission<'a>,
+    command_line: &'a [u8],
+    map: MemoryMap<'a>,
+    window: Span,
+}
+
+/// Checks 1 to 14.
+fn examine(case: &Case) -> Result<Examined<'_>, Refusal> {
+    let submission = Submission::read(&case.submission)?;
+    if case.operator.len() > MAX_LINE || case.operator.contains(&0) {
+        return Err(Refusal::BadOperatorLine);
+    }
+    let Range { start, end } = case.addresses();
+    if end > TOP {
+        return Err(Refusal::WindowPastTop);
+    }
+    let map = MemoryMap::read(&case.map)?;
+    let kernel = Kernel::read(submission.image)?;
+    let command_line = match &case.operator[..] {
+        [] => submission.line,
+        operator => operator,
+    };
+    Ok(Examined { kernel, submission, command_line, map, window: Span { start, end } })
+}
+
+impl Examined<'_> {
+    /// The modules in list order.
+    fn module_items(&self) -> Vec<Item> {
+        let boundary = if self.kernel.pages { PAGE } else { WORD };
+        let item = |length: usize| Item { length: length as u64, boundary };
+        let modules = self.submission.modules.iter();
+        modules.map(|module| item(module.data.len())).collect()
+    }
+
+    /// The information block.
+    fn block_item(&self) -> Item {
+        Item { length: block::length(self), boundary: WORD }
+    }
+}
+
+/// Where the items stand.
+struct Placed {
+    modules: Vec<Span>,
+    block: Span,
+}
+
+/// Checks 15 to 17.
+fn place(examined: &Examined) -> Result<Placed, Refusal> {
+    let mut free = examined.map.usable().within(examined.window);
+    if !free.covers(examined.kernel.extent()) {
+        return Err(Refusal::KernelNotOpen);
+    }
+    free.remove(examined.kernel.extent());
+    let mut modules = Vec::new();
+    for (index, item) in examined.module_items().into_iter().enumerate() {
+        let span = take(&mut free, item).ok_or(Refusal::NoRoomForModule { index: index as u32 })?;
+        modules.push(span);
+    }
+    let block = take(&mut free, examined.block_item()).ok_or(Refusal::NoRoomForBlock)?;
+    Ok(Placed { modules, block })
+}
+
+/// Takes the lowest place of an item out of the free memory, or nothing where it has none.
+fn take(free: &mut SpanSet, item: Item) -> Option<Span> {
+    let start = free.lowest_place(item.length, item.boundary)?;
+    let span = Span { start, end: start + item.length };
+    free.remove(span);
+    Some(span)
+}
+
+/// Writes the load bytes, zeros over the bss, the modules and the information block.
+fn write(examined: &Examined, placed: &Placed, window: &mut [u8]) {
+    let (kernel, lent) = (&examined.kernel, examined.window);
+    part(window, lent, kernel.load()).copy_from_slice(kernel.load_bytes);
+    part(window, lent, kernel.bss()).fill(0);
+    for (module, &span) in examined.submission.modules.iter().zip(&placed.modules) {
+        part(window, lent, span).copy_from_slice(module.data);
+    }
+    let block = Block::new(examined, placed);
+    part(window, lent, placed.block).copy_from_slice(&block.bytes());
+}
+
+/// The window's bytes that stand for a span.
+fn part(window: &mut [u8], lent: Span, span: Span) -> &mut [u8] {
+    let offset = |address: u64| (address - lent.start) as usize;
+    &mut window[offset(span.start)..offset(span.end)]
+}
+
+fn plan_of(examined: &Examined, placed: &Placed) -> Plan {
+    let kernel = &examined.kernel;
+    let mut segments = [Segment::default(); MAX_SEGMENTS];
+    segments[0] = Segment {
+        start: word(kernel.start),
+        load_end: word(kernel.load_end),
+        extent_end: word(kernel.extent_end),
+    };
+    let mut modules = [viertompu::Span::default(); MAX_MODULES];
+    for (slot, &span) in modules.iter_mut().zip(&placed.modules) {
+        *slot = word_span(span);
+    }
+    Plan {
+        header_offset: word(kernel.header_offset.0),
+        entry: kernel.entry,
+        eax: BOOT_MAGIC,
+        ebx: word(placed.block.start),
+        block: word_span(placed.block),
+        segments,
+        modules,
+    }
+}
+
+/// A span of a load as words.
+fn word_span(span: Span) -> viertompu::Span {
+    viertompu::Span { start: word(span.start), end: word(span.end) }
+}
+
+/// A number of a load as a word: all of them lie within the window, so below 2^32.
+fn word(number: u64) -> u32 {
+    u32::try_from(number).expect("a load's numbers lie below 2^32")
+}

@@ -1,0 +1,15 @@
+//! The numbers and words of the rules, which inputs, loaders and comparison share.
+
+pub mod bytes;
+pub mod limits;
+pub mod offsets;
+mod words;
+
+pub use words::{reachable_numbers, words, Decision};
+
+/// Something to be placed: a module or the information block.
+#[derive(Clone, Copy, Debug, PartialEq, Eq)]
+pub struct Item {
+    pub length: u64,
+    pub boundary: u64,
+}

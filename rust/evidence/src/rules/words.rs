@@ -1,0 +1,32 @@
+//! A decision as the 96 words that a loader gives.
+
+use viertompu::{Plan, Refusal, Words, WORDS};
+
+pub type Decision = Result<Plan, Refusal>;
+
+/// The numbers that some input gives. None gives 11: the header found lies in the image, and not
+/// before the load offset.
+pub fn reachable_numbers() -> impl Iterator<Item = u32> {
+    let (last, unreachable) = (Refusal::NoRoomForBlock, Refusal::NothingToLoad);
+    (0..=last.number()).filter(move |&number| number != unreachable.number())
+}
+
+/// The words of a decision. Those of a refusal are its number and item, and zeros.
+pub fn words(decision: &Decision) -> Words {
+    let numbers = match decision {
+        Ok(plan) => plan_numbers(plan),
+        Err(refusal) => vec![refusal.number(), refusal.item()],
+    };
+    let mut words = [0; WORDS];
+    words[..numbers.len()].copy_from_slice(&numbers);
+    words
+}
+
+/// Number and item 0, then the plan.
+fn plan_numbers(plan: &Plan) -> Vec<u32> {
+    let mut numbers = vec![0, 0, plan.header_offset, plan.entry, plan.eax, plan.ebx];
+    numbers.extend([plan.block.start, plan.block.end]);
+    numbers.extend(plan.segments.iter().flat_map(|s| [s.start, s.load_end, s.extent_end]));
+    numbers.extend(plan.modules.iter().flat_map(|m| [m.start, m.end]));
+    numbers
+}

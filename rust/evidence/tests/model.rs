@@ -1,0 +1,134 @@
+//! The address-by-address model: each rule of its checks can be the only one broken.
+
+use evidence::input::bench_cases::b1;
+use evidence::input::case::Case;
+use evidence::input::draft::{overlay, submission, Header, Module};
+use evidence::input::pair::{map_bytes, Pair};
+use evidence::input::review_board;
+use evidence::loaders::model::read;
+use evidence::loaders::{run, second};
+use evidence::rules::limits::{ADDRESS_FIELDS, RAM};
+use evidence::rules::offsets::header::{BSS_END_ADDR, ENTRY_ADDR, LOAD_ADDR, LOAD_END_ADDR};
+
+/// B1's image begins here in its submission.
+const B1_IMAGE: usize = 20;
+
+/// The number of the answer, 0 where the model places everything.
+fn number(case: &Case) -> u32 {
+    let placed = read(case).map_err(|refused| refused.refusal).and_then(|r| r.place());
+    placed.map_or_else(|refusal| refusal.number(), |_| 0)
+}
+
+/// The case is refused with this number, for this rule and no other.
+fn alone(case: Case, number: u32, what: &str) {
+    let refused = read(&case).err().unwrap_or_else(|| panic!("{what}: not refused"));
+    let broken: Vec<&str> = refused.rules.iter().filter(|r| r.broken).map(|r| r.what).collect();
+    assert_eq!((refused.refusal.number(), broken), (number, vec![what]));
+}
+
+/// B1 with other bytes at an offset.
+fn with(at: usize, bytes: &[u8]) -> Case {
+    let mut submission = b1();
+    overlay(&mut submission, at, bytes);
+    review_board::case(&submission)
+}
+
+/// B1 with another field in its header.
+fn with_field(field: usize, value: u32) -> Case {
+    with(B1_IMAGE + field, &value.to_le_bytes())
+}
+
+/// A submission without an image.
+fn parts(line: &[u8], modules: &[(&[u8], &[u8])]) -> Case {
+    let module =
+        |&(data, string): &(&[u8], &[u8])| Module { data: data.to_vec(), string: string.to_vec() };
+    let modules: Vec<Module> = modules.iter().map(module).collect();
+    review_board::case(&submission(b"", line, &modules))
+}
+
+/// An image of zeros, its header at an offset.
+fn image(length: usize, header: Header) -> Case {
+    let mut image = vec![0; length];
+    overlay(&mut image, header.offset, &header.bytes());
+    review_board::case(&submission(&image, b"", &[]))
+}
+
+fn on_map(map: Vec<u8>) -> Case {
+    Case { map, ..review_board::case(&b1()) }
+}
+
+#[test]
+fn each_rule_of_the_submission_alone() {
+    let cut = |length: usize| review_board::case(&b1()[..length]);
+    (0..12).for_each(|length| alone(cut(length), 1, "under 12 bytes"));
+    (0..3).for_each(|at| alone(with(at, b"x"), 1, "another mark"));
+    (3..5).for_each(|at| alone(with(at, &[2]), 1, "another version"));
+    let one: (&[u8], &[u8]) = (b"x", b"");
+    let long = [b'x'; 256];
+    alone(parts(b"", &[one; 17]), 2, "over 16 modules");
+    alone(parts(&long, &[]), 2, "a command line over 255 bytes");
+    alone(parts(b"", &[one, (b"", b"a")]), 2, "a module without data");
+    alone(parts(b"", &[(b"x", &long[..128])]), 2, "a module string over 127 bytes");
+    (18..20).for_each(|at| alone(with(at, &[1]), 2, "a reserved byte that is set"));
+    let longer = review_board::case(&[&b1()[..], b"x"].concat());
+    alone(longer, 2, "parts that end before the submission");
+    (12..66).for_each(|length| alone(cut(length), 2, "parts that end past the submission"));
+    (6..10).for_each(|at| alone(with(at, &[0xFF]), 2, "parts that end past the submission"));
+    alone(with(15, &[0xFF]), 2, "parts that end past the submission");
+    alone(parts(b"a\0b", &[one]), 2, "a zero byte in the command line");
+    alone(parts(b"a", &[one, (b"\0", b"\0")]), 2, "a zero byte in a module string");
+    assert_eq!(number(&parts(&long[..255], &[(&b"\0"[..], &long[..127]); 16])), 6);
+}
+
+#[test]
+fn each_rule_of_line_window_and_map_alone() {
+    let operator = |line: &[u8]| Case { operator: line.to_vec(), ..review_board::case(&b1()) };
+    alone(operator(&[b'x'; 256]), 3, "over 255 bytes");
+    alone(operator(b"a\0b"), 3, "a zero byte");
+    let window = |first, length| Case { first, window: vec![0; length], ..operator(b"") };
+    alone(window(0xFFFF_F001, 0), 4, "a window past the top");
+    alone(window(0xFFFF_EFFF, 2), 4, "a window past the top");
+    let sized = |size| map_bytes(&[Pair { size, ..Pair::new(0, 0, RAM) }]);
+    let most = map_bytes(&[Pair::new(0, 0, RAM); 32]);
+    alone(on_map(vec![]), 5, "an empty map");
+    alone(on_map(sized(4093)), 5, "over 4,096 bytes");
+    alone(on_map([&most[..], &sized(20)].concat()), 5, "over 32 pairs");
+    (0..20).for_each(|size| alone(on_map(sized(size)), 5, "a size under 20"));
+    (4..24).for_each(|end| alone(on_map(sized(20)[..end].to_vec()), 5, "a pair past the end"));
+    let huge = [&u32::MAX.to_le_bytes()[..], &[0; 20]].concat();
+    alone(on_map(huge), 5, "a pair past the end");
+    let tail = |n| on_map([&most[..], &[0; 3][..n]].concat());
+    (1..4).for_each(|n| alone(tail(n), 5, "a size field past the end"));
+    assert_eq!([number(&on_map(most)), number(&on_map(sized(4092)))], [15, 15]);
+}
+
+#[test]
+fn each_rule_of_the_kernel_alone() {
+    let header = |offset| Header { offset, flags: ADDRESS_FIELDS, ..Header::default() };
+    alone(image(9000, header(8164)), 9, "beyond 8,192 bytes");
+    alone(image(31, header(0)), 9, "beyond the image");
+    alone(with_field(LOAD_ADDR, 0x10_0001), 10, "load_addr above header_addr");
+    alone(with_field(LOAD_ADDR, 0xF_FFFF), 10, "a difference above the header offset");
+    alone(with_field(LOAD_END_ADDR, 0xF_FFFF), 12, "load_end_addr below load_addr");
+    alone(with_field(LOAD_END_ADDR, 0x10_0029), 12, "a load beyond the image");
+    alone(with_field(BSS_END_ADDR, 0x10_0027), 13, "bss_end_addr below the load end");
+    alone(with_field(ENTRY_ADDR, 0xF_FFFF), 14, "an entry below load_addr");
+    alone(with_field(ENTRY_ADDR, 0x10_0028), 14, "an entry not below the load end");
+    let flagged = |bit: u32| Header { flags: 1 << bit, ..Header::default() };
+    (2..16).for_each(|bit| assert_eq!(number(&image(40, flagged(bit))), 7));
+    assert_eq!([number(&with_field(ENTRY_ADDR, 0x10_0027)), number(&image(40, header(2)))], [0, 6]);
+}
+
+/// Lengths that lead anywhere, and long garbage.
+#[test]
+fn any_bytes_are_read() {
+    for at in 0..b1().len() {
+        let cases = [0, 1, 0x7F, 0xFF].map(|byte| with(at, &[byte; 4]));
+        let by_second = cases.each_ref().map(|case| run(second::load, case).words[0]);
+        assert_eq!(cases.each_ref().map(number), by_second, "at {at}");
+    }
+    let maps = [0, 1, 19, 0xFF].map(|byte| number(&on_map(vec![byte; 300 << 10])));
+    assert_eq!(maps, [5; 4]);
+    let filled = |byte| review_board::case(&[&b"KSB\x01\x00"[..], &vec![byte; 300 << 10]].concat());
+    assert_eq!([0, 1, 0xFF].map(|byte| number(&filled(byte))), [2; 3]);
+}

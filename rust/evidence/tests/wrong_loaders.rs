@@ -1,0 +1,175 @@
+//! Loaders that are wrong on purpose must be caught by the comparison.
+
+use evidence::compare::by_address::agrees;
+use evidence::compare::{same, sound};
+use evidence::input::bench_cases::b1;
+use evidence::input::case::Case;
+use evidence::input::draft::pattern;
+use evidence::input::pair::{map_bytes, Pair};
+use evidence::input::{generate, review_board};
+use evidence::loaders::{run, second, Loader, Outcome};
+use evidence::rules::bytes::{put_u32, u32_at};
+use evidence::rules::limits::{FLOOR, RAM};
+use evidence::rules::offsets::structure;
+use evidence::rules::words;
+use viertompu::{read_words, Refusal, Words};
+
+const CASES: u64 = 2000;
+/// Boards up to this cost are placed on by the address-by-address model.
+const SMALL_BOARD: u128 = 1 << 18;
+
+fn refuses_everything(_: &Case, _: &mut [u8]) -> Words {
+    words(&Err(Refusal::NotASubmission))
+}
+
+fn always_the_same_plan(case: &Case, window: &mut [u8]) -> Words {
+    let words = second::load(case, window);
+    match words[0] {
+        0 => run(second::load, &review_board::case(&b1())).words,
+        _ => words,
+    }
+}
+
+fn never_writes(case: &Case, window: &mut [u8]) -> Words {
+    second::load(case, &mut window.to_vec())
+}
+
+fn lists_all_but_the_first_module(case: &Case, window: &mut [u8]) -> Words {
+    let words = second::load(case, window);
+    if let Ok(plan) = read_words(&words) {
+        for module in plan.modules[1..].iter().filter(|m| m.end != 0) {
+            let offset = |address: u32| (address - case.first) as usize;
+            let part = offset(module.start)..offset(module.end);
+            window[part.clone()].copy_from_slice(&case.window[part]);
+        }
+    }
+    words
+}
+
+fn clears_a_byte_behind_the_bss(case: &Case, window: &mut [u8]) -> Words {
+    let words = second::load(case, window);
+    if let Ok(plan) = read_words(&words) {
+        let offset = (plan.segments[0].extent_end - case.first) as usize;
+        if let Some(byte) = window.get_mut(offset) {
+            *byte = 0;
+        }
+    }
+    words
+}
+
+/// Loads, and adds 1 to a field of the block's structure.
+fn invents(field: usize, case: &Case, window: &mut [u8]) -> Words {
+    let words = second::load(case, window);
+    if let Ok(plan) = read_words(&words) {
+        let offset = (plan.block.start - case.first) as usize + field;
+        put_u32(window, offset, u32_at(window, offset).wrapping_add(1));
+    }
+    words
+}
+
+fn invents_mem_upper(case: &Case, window: &mut [u8]) -> Words {
+    invents(structure::MEM_UPPER, case, window)
+}
+
+fn invents_mods_count(case: &Case, window: &mut [u8]) -> Words {
+    invents(structure::MODS_COUNT, case, window)
+}
+
+fn writes_before_it_refuses(case: &Case, window: &mut [u8]) -> Words {
+    let words = second::load(case, window);
+    if words[0] >= 16 {
+        window[0] = 0;
+    }
+    words
+}
+
+/// Does holding the loader against the second one find it out?
+fn caught_beside_the_second(loader: Loader) -> bool {
+    (0..CASES).any(|index| {
+        let case = generate::case(1, index);
+        same(&case, &run(loader, &case), &run(second::load, &case)).is_err()
+    })
+}
+
+/// Does reading its loads and refusals find it out, without another loader?
+fn caught_by_reading(loader: Loader) -> bool {
+    (0..CASES).any(|index| {
+        let case = generate::case(1, index);
+        sound(&case, &run(loader, &case)).is_err()
+    })
+}
+
+/// Does the address-by-address model find it out?
+fn caught_by_address(loader: Loader) -> bool {
+    (0..CASES).any(|index| {
+        let case = generate::case(1, index);
+        agrees(&case, &run(loader, &case), SMALL_BOARD).is_err()
+    })
+}
+
+/// Their loads and refusals show that they are wrong.
+const WRONG_BY_THEMSELVES: [(&str, Loader); 6] = [
+    ("always_the_same_plan", always_the_same_plan),
+    ("never_writes", never_writes),
+    ("lists_all_but_the_first_module", lists_all_but_the_first_module),
+    ("clears_a_byte_behind_the_bss", clears_a_byte_behind_the_bss),
+    ("invents_mods_count", invents_mods_count),
+    ("writes_before_it_refuses", writes_before_it_refuses),
+];
+
+/// Only another reading of the rules shows that they are wrong.
+const WRONG_BESIDE_ANOTHER: [(&str, Loader); 2] =
+    [("refuses_everything", refuses_everything), ("invents_mem_upper", invents_mem_upper)];
+
+#[test]
+fn comparison_catches_wrong_loaders() {
+    for (name, loader) in WRONG_BY_THEMSELVES.into_iter().chain(WRONG_BESIDE_ANOTHER) {
+        assert!(caught_beside_the_second(loader), "{name}");
+    }
+}
+
+#[test]
+fn reading_a_load_catches_wrong_loaders() {
+    for (name, loader) in WRONG_BY_THEMSELVES {
+        assert!(caught_by_reading(loader), "{name}");
+    }
+}
+
+#[test]
+fn the_model_catches_wrong_loaders() {
+    for (name, loader) in WRONG_BESIDE_ANOTHER {
+        assert!(caught_by_address(loader), "{name}");
+    }
+}
+
+#[test]
+fn none_finds_fault_with_the_second_itself() {
+    assert!(!caught_beside_the_second(second::load));
+    assert!(!caught_by_reading(second::load));
+    assert!(!caught_by_address(second::load));
+}
+
+#[test]
+fn every_byte_and_word_of_a_load_is_read() {
+    let memory = [Pair::new(0, 0x1000, RAM), Pair::new(FLOOR, 0x2000, RAM)];
+    let case = Case {
+        operator: b"line".to_vec(),
+        map: map_bytes(&memory),
+        window: pattern(0, 0x1005),
+        ..review_board::case(&b1())
+    };
+    let right =
+        |outcome: &Outcome| sound(&case, outcome).and_then(|()| agrees(&case, outcome, u128::MAX));
+    let outcome = run(second::load, &case);
+    assert_eq!(right(&outcome), Ok(true));
+    for at in 0..outcome.window.len() {
+        let mut other = outcome.clone();
+        other.window[at] ^= 1;
+        assert!(right(&other).is_err(), "byte {at:X}");
+    }
+    for at in 0..outcome.words.len() {
+        let mut other = outcome.clone();
+        other.words[at] ^= 1;
+        assert!(right(&other).is_err(), "word {at}");
+    }
+}

@@ -1,0 +1,71 @@
+//! Why a submission is not loaded.
+
+use core::error::Error;
+use core::fmt;
+
+/// Makes the enum of a row for each refusal: its number, its name with its item, and its sentence.
+macro_rules! refusals {
+    ($($number:literal $name:ident $({ $item:ident })? $reason:literal,)*) => {
+        /// Why a submission is not loaded, in the order of the checks. It displays as its sentence.
+        #[derive(Clone, Copy, Debug, PartialEq, Eq)]
+        pub enum Refusal {
+            $(
+                #[doc = concat!($number, ": ", $reason)]
+                $name $({ $item: u32 })?,
+            )*
+        }
+
+        impl Refusal {
+            /// The number of the refusal.
+            pub fn number(self) -> u32 {
+                match self { $(Refusal::$name { .. } => $number,)* }
+            }
+
+            /// The item of the refusal, 0 where it has none.
+            pub fn item(self) -> u32 {
+                match self { $(Refusal::$name $({ $item })? => 0 $(+ $item)?,)* }
+            }
+
+            /// The sentence of the refusal.
+            pub fn reason(self) -> &'static str {
+                match self { $(Refusal::$name { .. } => $reason,)* }
+            }
+
+            /// The refusal of a number and an item, if there is one of that number.
+            pub fn of_number(number: u32, item: u32) -> Option<Refusal> {
+                match number {
+                    $($number => Some(Refusal::$name $({ $item: item })?),)*
+                    _ => None,
+                }
+            }
+        }
+    };
+}
+
+refusals! {
+    1 NotASubmission "the submission is under 12 bytes, or its mark or version is wrong",
+    2 BadSubmission "the submission breaks another rule of its format",
+    3 BadOperatorLine "the operator's line is over 255 bytes or holds a zero byte",
+    4 WindowPastTop "the window's first address plus its length is above the top",
+    5 BadMemoryMap "the map is empty, over 4,096 bytes, has over 32 pairs, or a pair has a size under 20 or runs past the map's end",
+    6 NoHeader "the image has no header",
+    7 UnknownRequest "one of the header's flag bits 2 to 15 is set",
+    8 NoAddressFields "the header's flag bit 16 is clear",
+    9 HeaderCutOff "the 32 bytes of header and address fields do not lie inside both the image and its first 8,192 bytes",
+    10 LoadBeforeImage "load_addr is above header_addr, or their difference is above the header's offset",
+    11 NothingToLoad "load_end_addr is 0, and no byte of the image is left from the load offset on",
+    12 LoadPastImage "load_end_addr is not 0 and below load_addr, or the load ends beyond the image",
+    13 BssBelowLoadEnd "bss_end_addr is not 0 and below the load end",
+    14 EntryOutsideLoad "entry_addr is below load_addr, or not below the load end",
+    15 KernelNotOpen "an address of the kernel's extent is not open",
+    16 NoRoomForModule { index } "there is no room for a module; the item is its index, counted from 0",
+    17 NoRoomForBlock "there is no room for the information block",
+}
+
+impl fmt::Display for Refusal {
+    fn fmt(&self, f: &mut fmt::Formatter) -> fmt::Result {
+        f.write_str(self.reason())
+    }
+}
+
+impl Error for Refusal {}
