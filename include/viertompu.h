@@ -1,4 +1,11 @@
-/* Viertompu: the loading of Multiboot 0.6.93 kernels, proved. Link target/staticlib/libviertompu.a (rt staticlib viertompu). */
+/*
+ * Viertompu: the loading of Multiboot 0.6.93 kernels, proved.
+ *
+ *     rt staticlib viertompu                                                    # target/staticlib/libviertompu.a
+ *     gcc -std=c99 -Iinclude samples/load.c target/staticlib/libviertompu.a     # x86-64, System V calls
+ *
+ * docs/RULES.md tells every rule; the two formats that are lent stand below.
+ */
 #ifndef VIERTOMPU_H
 #define VIERTOMPU_H
 
@@ -9,7 +16,43 @@
 extern "C" {
 #endif
 
-/* The words of a plan. A refusal has its number and item, and zeros in all other words. */
+/*
+ * The answers: name, number, and when it is given. The checks are made in this order; the first that applies is the answer.
+ */
+#define VIERTOMPU_ANSWERS(ANSWER) \
+    ANSWER(VIERTOMPU_LOAD, 0, "no check applies: a load") \
+    ANSWER(VIERTOMPU_NOT_A_SUBMISSION, 1, "the submission is under 12 bytes, or its mark or version is wrong") \
+    ANSWER(VIERTOMPU_BAD_SUBMISSION, 2, "the submission breaks another rule of its format") \
+    ANSWER(VIERTOMPU_BAD_OPERATOR_LINE, 3, "the operator's line is over 255 bytes or holds a zero byte") \
+    ANSWER(VIERTOMPU_WINDOW_PAST_TOP, 4, "the window's first address plus its length is above the top") \
+    ANSWER(VIERTOMPU_BAD_MEMORY_MAP, 5, "the map is empty, over 4,096 bytes, has over 32 pairs, or a pair has a size under 20 or runs past the map's end") \
+    ANSWER(VIERTOMPU_NO_HEADER, 6, "the image has no header") \
+    ANSWER(VIERTOMPU_UNKNOWN_REQUEST, 7, "one of the header's flag bits 2 to 15 is set") \
+    ANSWER(VIERTOMPU_NO_ADDRESS_FIELDS, 8, "the header's flag bit 16 is clear") \
+    ANSWER(VIERTOMPU_HEADER_CUT_OFF, 9, "the 32 bytes of header and address fields do not lie inside both the image and its first 8,192 bytes") \
+    ANSWER(VIERTOMPU_LOAD_BEFORE_IMAGE, 10, "load_addr is above header_addr, or their difference is above the header's offset") \
+    ANSWER(VIERTOMPU_NOTHING_TO_LOAD, 11, "load_end_addr is 0, and no byte of the image is left from the load offset on") \
+    ANSWER(VIERTOMPU_LOAD_PAST_IMAGE, 12, "load_end_addr is not 0 and below load_addr, or the load ends beyond the image") \
+    ANSWER(VIERTOMPU_BSS_BELOW_LOAD_END, 13, "bss_end_addr is not 0 and below the load end") \
+    ANSWER(VIERTOMPU_ENTRY_OUTSIDE_LOAD, 14, "entry_addr is below load_addr, or not below the load end") \
+    ANSWER(VIERTOMPU_KERNEL_NOT_OPEN, 15, "an address of the kernel's extent is not open") \
+    ANSWER(VIERTOMPU_NO_ROOM_FOR_MODULE, 16, "there is no room for a module; the item is its index, counted from 0") \
+    ANSWER(VIERTOMPU_NO_ROOM_FOR_BLOCK, 17, "there is no room for the information block")
+
+#define VIERTOMPU_ANSWER_NUMBER(name, number, reason) name = number,
+enum viertompu_answer { VIERTOMPU_ANSWERS(VIERTOMPU_ANSWER_NUMBER) };
+
+/* When an answer of this number is given, in a sentence. */
+static inline const char *viertompu_reason(uint32_t number)
+{
+    switch (number) {
+#define VIERTOMPU_ANSWER_REASON(name, number, reason) case number: return reason;
+        VIERTOMPU_ANSWERS(VIERTOMPU_ANSWER_REASON)
+    }
+    return "there is no such answer";
+}
+
+/* The words of a plan. A refusal has its number and item, and zeros in all other words. Ends are exclusive. */
 #define VIERTOMPU_PLAN_WORDS 96
 
 #define VIERTOMPU_NUMBER 0          /* the number that is also returned */
@@ -19,42 +62,69 @@ extern "C" {
 #define VIERTOMPU_EAX 4             /* the number handed over in EAX */
 #define VIERTOMPU_EBX 5             /* the number handed over in EBX: the information block's address */
 #define VIERTOMPU_BLOCK_START 6     /* the information block's start */
-#define VIERTOMPU_BLOCK_END 7       /* its end, exclusive */
-#define VIERTOMPU_SEGMENTS 8        /* sixteen segments: start, load end, extent end; zeros past the last */
-#define VIERTOMPU_SEGMENT_WORDS 3   /* the words of a segment */
-#define VIERTOMPU_MODULES 56        /* sixteen modules: start, end; zeros past the last */
-#define VIERTOMPU_MODULE_WORDS 2    /* the words of a module */
+#define VIERTOMPU_BLOCK_END 7       /* its end */
+#define VIERTOMPU_SEGMENTS 8        /* the segments of the kernel, of three words each; zeros past the last */
+#define VIERTOMPU_MODULES 56        /* the modules, of two words each; zeros past the last */
 #define VIERTOMPU_ZEROS 88          /* from here on the words are zero */
 
+#define VIERTOMPU_SEGMENT_WORDS 3
+#define VIERTOMPU_MODULE_WORDS 2
+#define VIERTOMPU_MAX_SEGMENTS 16
+#define VIERTOMPU_MAX_MODULES 16
+
+/* The words of segment i and of module i, from 0 up to the maximum. A place is empty where its last word is 0. */
+#define VIERTOMPU_SEGMENT_START(i) (VIERTOMPU_SEGMENTS + VIERTOMPU_SEGMENT_WORDS * (i))
+#define VIERTOMPU_SEGMENT_LOAD_END(i) (VIERTOMPU_SEGMENT_START(i) + 1)
+#define VIERTOMPU_SEGMENT_EXTENT_END(i) (VIERTOMPU_SEGMENT_START(i) + 2)
+#define VIERTOMPU_MODULE_START(i) (VIERTOMPU_MODULES + VIERTOMPU_MODULE_WORDS * (i))
+#define VIERTOMPU_MODULE_END(i) (VIERTOMPU_MODULE_START(i) + 1)
+
 /*
- * Loads a submission into the window, which stands for physical memory from the address `first` on, and returns 0; or
- * returns the number of the first check that refuses, and leaves the window as it was. The buffers may be empty, and then
- * their pointers may be any that are not null. They must not overlap.
+ * The submission: a kernel image with its modules. All numbers are little-endian.
  *
- *   0  no check applies: a load
- *   1  the submission is under 12 bytes, or its mark or version is wrong
- *   2  the submission breaks another rule of its format
- *   3  the operator's line is over 255 bytes or holds a zero byte
- *   4  the window's first address plus its length is above the top
- *   5  the map is empty, over 4,096 bytes, has over 32 pairs, or a pair has a size under 20 or runs past the map's end
- *   6  the image has no header
- *   7  one of the header's flag bits 2 to 15 is set
- *   8  the header's flag bit 16 is clear
- *   9  the 32 bytes of header and address fields do not lie inside both the image and its first 8,192 bytes
- *  10  load_addr is above header_addr, or their difference is above the header's offset
- *  11  load_end_addr is 0, and no byte of the image is left from the load offset on
- *  12  load_end_addr is not 0 and below load_addr, or the load ends beyond the image
- *  13  bss_end_addr is not 0 and below the load end
- *  14  entry_addr is below load_addr, or not below the load end
- *  15  an address of the kernel's extent is not open
- *  16  there is no room for a module; the item is its index, counted from 0
- *  17  there is no room for the information block
+ *      at   size   meaning
+ *       0      3   the bytes KSB
+ *       3      2   version: 1
+ *       5      1   how many modules: 0 to 16
+ *       6      4   length of the image
+ *      10      2   length of the command line: 0 to 255
+ *      12   8 for each module: length of its data (4 bytes, 1 or more), length of its string (2 bytes, 0 to 127), zero (2 bytes)
+ *
+ * Then, without gaps and up to the submission's end: the image, the command line, and for each module its data and its
+ * string. Command line and strings hold no zero byte; the information block puts one behind each.
+ *
+ * The memory map: 1 to 32 pairs in at most 4,096 bytes.
+ *
+ *      at   size   meaning
+ *       0      4   size: how many bytes of the pair follow, 20 or more; the next pair begins at 4 + size
+ *       4      8   base
+ *      12      8   length
+ *      20      4   type: 1 is usable memory; a pair of another type takes what it covers out of the usable memory
+ */
+
+/*
+ * Loads a submission into the window, which stands for physical memory from the address `first` on, and returns
+ * VIERTOMPU_LOAD; or returns the number of the first check that applies, and leaves the window as it was. All words of the
+ * plan are written. Where the operator's line is empty, the submission's command line is in force. The buffers may be empty,
+ * and then their pointers may be any that are not null. They must not overlap.
  */
 uint32_t viertompu_load(const uint8_t *submission, size_t submission_len,
                         const uint8_t *operator_line, size_t operator_len,
                         const uint8_t *map, size_t map_len,
                         uint8_t *window, size_t window_len,
                         uint32_t first, uint32_t plan[VIERTOMPU_PLAN_WORDS]);
+
+/*
+ * For boot code (samples/boot.c is an example without a C library):
+ *
+ * - The code is for x86-64, in long mode. It needs memcpy and memset from you, and nothing else: no other symbol, no heap,
+ *   no thread-local storage, no system call. It keeps no state between calls.
+ * - It uses the SSE registers, so that CR4.OSFXSR must be set and CR0.EM clear; it uses neither x87, MMX nor AVX.
+ * - It takes about 7.2 KB of stack, which must be aligned to 16 bytes where the call is made, as the System V calls ask. It
+ *   writes nothing below the stack pointer (no red zone), so that interrupts may run on the same stack if it has room for
+ *   them.
+ */
+#define VIERTOMPU_STACK 8192        /* bytes of stack that are enough for a call, with room for memcpy and memset */
 
 #ifdef __cplusplus
 }

@@ -1,5 +1,11 @@
-/* Loads the submission named on the command line as the review program does, and prints its plan. */
+/*
+ * Loads the submission named on the command line as the review program does, and prints its plan; a refusal's sentence goes
+ * to standard error.
+ *
+ *     gcc -std=c99 -Iinclude samples/load.c target/staticlib/libviertompu.a -o load
+ */
 #include <stdio.h>
+#include <stdlib.h>
 #include "viertompu.h"
 
 /* Usable memory from 0 on (0x9FC00 bytes) and from 0x100000 on (0x700000 bytes). */
@@ -8,28 +14,62 @@ static const uint8_t map[48] = {
     20, 0, 0, 0, 0, 0, 0x10, 0, 0, 0, 0, 0, 0, 0,    0x70, 0, 0, 0, 0, 0, 1, 0, 0, 0,
 };
 
-static uint8_t submission[12288];
 static uint8_t window[49152];
+
+/* The bytes of a file of any length, or NULL where it cannot be read or is too long for the memory. */
+static uint8_t *read_file(const char *name, size_t *length)
+{
+    FILE *file = fopen(name, "rb");
+    uint8_t *bytes = NULL;
+    size_t room = 0, got = 0;
+    while (file && got == room) {
+        uint8_t *more = realloc(bytes, room += room + 4096);
+        if (!more)
+            break;
+        bytes = more;
+        got += fread(bytes + got, 1, room - got, file);
+    }
+    int whole = file && got < room && !ferror(file);
+    if (file)
+        fclose(file);
+    *length = got;
+    if (whole)
+        return bytes;
+    free(bytes);
+    return NULL;
+}
+
+static void print_plan(const uint32_t *plan)
+{
+    for (int i = 0; i < VIERTOMPU_MAX_SEGMENTS && plan[VIERTOMPU_SEGMENT_EXTENT_END(i)] != 0; i++)
+        printf("kernel %08X %08X %08X %08X\n", (unsigned)plan[VIERTOMPU_SEGMENT_START(i)],
+               (unsigned)plan[VIERTOMPU_SEGMENT_LOAD_END(i)], (unsigned)plan[VIERTOMPU_SEGMENT_EXTENT_END(i)],
+               (unsigned)plan[VIERTOMPU_ENTRY]);
+    for (int i = 0; i < VIERTOMPU_MAX_MODULES && plan[VIERTOMPU_MODULE_END(i)] != 0; i++)
+        printf("module %d %08X %08X\n", i, (unsigned)plan[VIERTOMPU_MODULE_START(i)], (unsigned)plan[VIERTOMPU_MODULE_END(i)]);
+    printf("info %08X %08X\n", (unsigned)plan[VIERTOMPU_BLOCK_START], (unsigned)plan[VIERTOMPU_BLOCK_END]);
+}
 
 int main(int argc, char **argv)
 {
     uint32_t plan[VIERTOMPU_PLAN_WORDS];
-    FILE *file = argc == 2 ? fopen(argv[1], "rb") : NULL;
-    if (!file) {
+    size_t length;
+    if (argc != 2) {
         fprintf(stderr, "usage: load SUBMISSION\n");
         return 2;
     }
-    size_t length = fread(submission, 1, sizeof submission, file);
-    fclose(file);
-
-    if (viertompu_load(submission, length, submission, 0, map, sizeof map, window, sizeof window, 0x100000, plan) != 0) {
-        printf("refused %u %u\n", (unsigned)plan[VIERTOMPU_NUMBER], (unsigned)plan[VIERTOMPU_ITEM]);
-        return 0;
+    uint8_t *submission = read_file(argv[1], &length);
+    if (!submission) {
+        fprintf(stderr, "load: %s cannot be read\n", argv[1]);
+        return 2;
     }
-    for (const uint32_t *s = plan + VIERTOMPU_SEGMENTS; s < plan + VIERTOMPU_MODULES && s[2] != 0; s += VIERTOMPU_SEGMENT_WORDS)
-        printf("kernel %08X %08X %08X %08X\n", (unsigned)s[0], (unsigned)s[1], (unsigned)s[2], (unsigned)plan[VIERTOMPU_ENTRY]);
-    for (const uint32_t *m = plan + VIERTOMPU_MODULES; m < plan + VIERTOMPU_ZEROS && m[1] != 0; m += VIERTOMPU_MODULE_WORDS)
-        printf("module %u %08X %08X\n", (unsigned)((m - plan - VIERTOMPU_MODULES) / VIERTOMPU_MODULE_WORDS), (unsigned)m[0], (unsigned)m[1]);
-    printf("info %08X %08X\n", (unsigned)plan[VIERTOMPU_BLOCK_START], (unsigned)plan[VIERTOMPU_BLOCK_END]);
+    uint32_t number = viertompu_load(submission, length, (const uint8_t *)"", 0, map, sizeof map, window, sizeof window, 0x100000, plan);
+    free(submission);
+    if (number == VIERTOMPU_LOAD) {
+        print_plan(plan);
+    } else {
+        printf("refused %u %u\n", (unsigned)number, (unsigned)plan[VIERTOMPU_ITEM]);
+        fprintf(stderr, "%s\n", viertompu_reason(number));
+    }
     return 0;
 }
