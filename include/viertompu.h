@@ -18,6 +18,22 @@ extern "C" {
 
 /*
  * The answers: name, number, and when it is given. The checks are made in this order; the first that applies is the answer.
+ * What the sentences speak of:
+ *
+ *     the map, a pair           the memory map, below; the addresses from base up to base + length
+ *     usable                    below 2^32, in a pair of type 1 and in no pair of another type
+ *     the window, open          the addresses from `first` on that the buffer `window` stands for; usable and in the window
+ *     the top                   0xFFFFF000
+ *     the header                Multiboot's: magic 0x1BADB002, flags and checksum, which add up to 0 in 32 bits, at the lowest
+ *                               multiple of 4 where they stand inside the image's first 8,192 bytes
+ *     header_addr, load_addr,   the address fields, from offset 12 of the header on; flag bit 16 announces them
+ *     load_end_addr,
+ *     bss_end_addr, entry_addr
+ *     the load offset           in the image: the header's offset - (header_addr - load_addr)
+ *     the load end              load_end_addr; where that is 0, load_addr plus the bytes of the image from the load offset on
+ *     the kernel's extent       from load_addr up to load end or bss_end_addr, whichever is greater
+ *     room                      an address from 0x100000 up, on a boundary of 4 (for modules 4,096 where flag bit 0 is set), from
+ *                               which on all is open and apart from the kernel and from what was placed before
  */
 #define VIERTOMPU_ANSWERS(ANSWER) \
     ANSWER(VIERTOMPU_LOAD, 0, "no check applies: a load") \
@@ -48,11 +64,14 @@ static inline const char *viertompu_reason(uint32_t number)
     switch (number) {
 #define VIERTOMPU_ANSWER_REASON(name, number, reason) case number: return reason;
         VIERTOMPU_ANSWERS(VIERTOMPU_ANSWER_REASON)
+    default: return "there is no such answer";
     }
-    return "there is no such answer";
 }
 
-/* The words of a plan. A refusal has its number and item, and zeros in all other words. Ends are exclusive. */
+/*
+ * The words that a call writes: number and item of the answer, and then the plan, which is all zeros in a refusal. The address a
+ * stands at window[a - first]; ends are exclusive.
+ */
 #define VIERTOMPU_PLAN_WORDS 96
 
 #define VIERTOMPU_NUMBER 0          /* the number that is also returned */
@@ -102,12 +121,20 @@ static inline const char *viertompu_reason(uint32_t number)
  *      20      4   type: 1 is usable memory; a pair of another type takes what it covers out of the usable memory
  */
 
+/* Calls are System V's, also where the compiler's own are others, as for UEFI. */
+#if defined(__GNUC__) || defined(__clang__)
+#define VIERTOMPU_CALL __attribute__((sysv_abi))
+#else
+#define VIERTOMPU_CALL
+#endif
+
 /*
  * Loads a submission into the window, which stands for physical memory from the address `first` on, and returns
  * VIERTOMPU_LOAD; or returns the number of the first check that applies, and leaves the window as it was. All words of the
- * plan are written. Where the operator's line is empty, the submission's command line is in force. The buffers may be empty,
- * and then their pointers may be any that are not null. They must not overlap.
+ * plan are written. Where the operator's line is empty, the submission's command line is in force. A buffer may be empty; no
+ * pointer may be null. Window and plan must overlap nothing else.
  */
+VIERTOMPU_CALL
 uint32_t viertompu_load(const uint8_t *submission, size_t submission_len,
                         const uint8_t *operator_line, size_t operator_len,
                         const uint8_t *map, size_t map_len,
@@ -117,9 +144,11 @@ uint32_t viertompu_load(const uint8_t *submission, size_t submission_len,
 /*
  * For boot code (samples/boot.c is an example without a C library):
  *
- * - The code is for x86-64, in long mode. It needs memcpy and memset from you, and nothing else: no other symbol, no heap,
- *   no thread-local storage, no system call. It keeps no state between calls.
- * - It uses the SSE registers, so that CR4.OSFXSR must be set and CR0.EM clear; it uses neither x87, MMX nor AVX.
+ * - The code is for x86-64, in long mode, in ELF and independent of its place. It needs memcpy and memset from you, by System
+ *   V's calls, and nothing else: no other symbol, no heap, no thread-local storage, no system call. It keeps no state.
+ * - Where the window is the memory itself, code, stack, plan and all that is lent must lie outside it: the library knows of
+ *   the map, the kernel and its modules alone. A window at address 0 needs another mapping, since a pointer to it is null.
+ * - It uses the SSE registers, so that CR4.OSFXSR must be set, and CR0.EM and CR0.TS clear; it uses neither x87, MMX nor AVX.
  * - It takes about 7.2 KB of stack, which must be aligned to 16 bytes where the call is made, as the System V calls ask. It
  *   writes nothing below the stack pointer (no red zone), so that interrupts may run on the same stack if it has room for
  *   them.

@@ -1,7 +1,7 @@
 /*
  * Loads a submission as boot code does, without a C library: memcpy, memset and the stack are its own. It runs under Linux,
- * where three system calls stand for the hardware: it reads a submission of at most 64 KiB from standard input, loads it as
- * the review program does, and prints the plan.
+ * where three system calls stand for the hardware: it reads the first 64 KiB of standard input, loads them as a submission on
+ * the board of the review program, and prints the plan.
  *
  *     gcc -std=gnu99 -O2 -ffreestanding -nostdlib -static -fno-stack-protector -mno-red-zone \
  *         -Iinclude samples/boot.c target/staticlib/libviertompu.a -o boot
@@ -102,6 +102,7 @@ static void put_plan(const uint32_t *plan)
 static const uint32_t map[12] = {20, 0, 0, 0x9FC00, 0, 1, 20, 0x100000, 0, 0x700000, 0, 1};
 
 static uint8_t submission[65536];
+/* Boot code has the memory itself here: (uint8_t *)0x100000. */
 static uint8_t window[49152];
 static uint32_t plan[VIERTOMPU_PLAN_WORDS];
 

@@ -1,6 +1,6 @@
 /*
- * Loads the submission named on the command line as the review program does, and prints its plan; a refusal's sentence goes
- * to standard error.
+ * Loads the submission named on the command line on the board of the review program, and prints its plan; a refusal's
+ * sentence goes to standard error.
  *
  *     gcc -std=c99 -Iinclude samples/load.c target/staticlib/libviertompu.a -o load
  */

@@ -5,7 +5,7 @@
 //! or two answers differ.
 //! `VIERTOMPU_SEED` and `VIERTOMPU_CASES` choose another run.
 
-use evidence::compare::by_address::agrees;
+use evidence::compare::by_address::{agrees, SMALL_BOARD};
 use evidence::compare::coverage::Coverage;
 use evidence::compare::{same, sound};
 use evidence::input::case::Case;
@@ -22,8 +22,6 @@ use std::time::Instant;
 
 const SEED: u64 = 1;
 const CASES: u64 = 200_000;
-/// Boards up to this cost are placed on by the address-by-address model.
-const SMALL_BOARD: u128 = 1 << 18;
 /// Agreements with the address-by-address model demanded for each number.
 const LEAST_AGREEMENTS: u64 = 100;
 

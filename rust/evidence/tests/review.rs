@@ -10,7 +10,7 @@ use std::path::Path;
 use std::process::{Command, Stdio};
 
 const SAMPLES: &str = concat!(env!("CARGO_MANIFEST_DIR"), "/../../samples");
-const PROGRAM: &str = concat!(env!("CARGO_MANIFEST_DIR"), "/../../review");
+const PROGRAM: &str = concat!(env!("CARGO_MANIFEST_DIR"), "/../../target/bin/review");
 
 #[test]
 fn b1_is_a_sample() {
@@ -48,7 +48,7 @@ fn printed_by_program(submission: &[u8]) -> String {
         .stdout(Stdio::piped())
         .stderr(Stdio::piped())
         .spawn()
-        .expect("the review program starts");
+        .expect("the review program starts: ./review builds it");
     let mut input = program.stdin.take().expect("its input is a pipe");
     let _ = input.write_all(submission);
     drop(input);

@@ -24,7 +24,7 @@ struct Call<'a> {
     words: Words,
 }
 
-extern "C" fn load(call: &mut Call) {
+extern "sysv64" fn load(call: &mut Call) {
     let Case { submission, operator, map, first, .. } = call.case;
     load_words(submission, operator, map, &mut call.window, *first, &mut call.words);
 }
@@ -45,7 +45,7 @@ fn used(case: &Case) -> usize {
             load = sym load,
             inout("rdi") &mut call => _,
             out("r12") _,
-            clobber_abi("C"),
+            clobber_abi("sysv64"),
         );
     }
     let unused = stack.0.iter().take_while(|&&word| word == PAINT).count();

@@ -1,6 +1,6 @@
 //! Loaders that are wrong on purpose must be caught by the comparison.
 
-use evidence::compare::by_address::agrees;
+use evidence::compare::by_address::{agrees, SMALL_BOARD};
 use evidence::compare::{same, sound};
 use evidence::input::bench_cases::b1;
 use evidence::input::case::Case;
@@ -15,8 +15,6 @@ use evidence::rules::words;
 use viertompu::{read_words, Refusal, Words};
 
 const CASES: u64 = 2000;
-/// Boards up to this cost are placed on by the address-by-address model.
-const SMALL_BOARD: u128 = 1 << 18;
 
 fn refuses_everything(_: &Case, _: &mut [u8]) -> Words {
     words(&Err(Refusal::NotASubmission))
@@ -34,7 +32,7 @@ fn never_writes(case: &Case, window: &mut [u8]) -> Words {
     second::load(case, &mut window.to_vec())
 }
 
-fn lists_all_but_the_first_module(case: &Case, window: &mut [u8]) -> Words {
+fn copies_the_first_module_alone(case: &Case, window: &mut [u8]) -> Words {
     let words = second::load(case, window);
     if let Ok(plan) = read_words(&words) {
         for module in plan.modules[1..].iter().filter(|m| m.end != 0) {
@@ -111,7 +109,7 @@ fn caught_by_address(loader: Loader) -> bool {
 const WRONG_BY_THEMSELVES: [(&str, Loader); 6] = [
     ("always_the_same_plan", always_the_same_plan),
     ("never_writes", never_writes),
-    ("lists_all_but_the_first_module", lists_all_but_the_first_module),
+    ("copies_the_first_module_alone", copies_the_first_module_alone),
     ("clears_a_byte_behind_the_bss", clears_a_byte_behind_the_bss),
     ("invents_mods_count", invents_mods_count),
     ("writes_before_it_refuses", writes_before_it_refuses),

@@ -4,8 +4,9 @@
 //! load, after which each byte of the window is known, and a numbered refusal that changes nothing.
 //! The rules, the formats of submission and map among them, are told in `docs/RULES.md`.
 //!
-//! The crate links `target/staticlib/libviertompu.a`, which `rt staticlib viertompu` writes. It has
-//! no std, no heap and no other crates.
+//! A dependency `viertompu = { path = "…/rust/viertompu" }` links `target/staticlib/libviertompu.a`,
+//! which `rt staticlib viertompu` writes, for x86-64. The crate has no std, no heap and no other
+//! crates; for boot code, `include/viertompu.h` tells what the archive needs and uses.
 //!
 //! ```
 //! // Usable memory from 0 on (0x9FC00 bytes) and from 0x100000 on (0x700000 bytes).
@@ -41,7 +42,7 @@ pub use plan::{Plan, Segment, Span, MAX_MODULES, MAX_SEGMENTS};
 pub use refusal::Refusal;
 pub use words::{read_words, Words, WORDS};
 
-extern "C" {
+extern "sysv64" {
     /// As `include/viertompu.h` declares it.
     fn viertompu_load(
         submission: *const u8,

@@ -8,6 +8,9 @@ use crate::rules::offsets::structure;
 use crate::rules::words;
 use viertompu::{read_words, Refusal};
 
+/// Boards up to this cost are placed on by the model where many cases are run.
+pub const SMALL_BOARD: u128 = 1 << 18;
+
 /// Says where an outcome differs from the model; gives false where placing on the board would cost
 /// the model more than `most`.
 pub fn agrees(case: &Case, outcome: &Outcome, most: u128) -> Result<bool, String> {

@@ -210,14 +210,16 @@ impl OnBoard<'_> {
         self.pairs().iter().any(|p| p.end() > 1 << 64 && wrapped(p) > self.case.first.into())
     }
 
-    /// Does the answer change once each usable pair and the window end a byte later?
+    /// Does the answer change once each usable pair and the window, if it may, end a byte later?
     fn one_byte_short(&self) -> bool {
         let mut longer = self.pairs().to_vec();
         for pair in longer.iter_mut().filter(|pair| pair.kind == RAM) {
             pair.length = pair.length.saturating_add(1);
         }
         let mut more = Case { map: map_bytes(&longer), ..self.case.clone() };
-        more.window.push(1);
+        if more.addresses().end < TOP {
+            more.window.push(1);
+        }
         run(second::load, &more).words[..2] != self.outcome.words[..2]
     }
 }

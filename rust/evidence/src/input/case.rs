@@ -61,7 +61,7 @@ fn number(text: &str) -> Result<u32, String> {
 }
 
 /// Bytes as upper-case digits without blanks.
-pub fn hex(bytes: &[u8]) -> String {
+fn hex(bytes: &[u8]) -> String {
     bytes.iter().map(|byte| format!("{byte:02X}")).collect()
 }
 

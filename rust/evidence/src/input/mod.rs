@@ -3,7 +3,7 @@
 //! - [`case`]: one input of a loader
 //! - [`pair`], [`draft`]: a map and a submission before they are bytes
 //! - [`review_board`]: the board of the review program
-//! - [`bench_cases`]: the bench cases of the rules with what they must give
+//! - [`bench_cases`]: worked cases of the rules with what they must give
 //! - [`rng`], [`generate`]: seeded random numbers, and the cases made of them
 
 pub mod bench_cases;

@@ -1,5 +1,5 @@
-//! The loaders: the proved one, and two readings of the rules that share no code with it or with
-//! each other.
+//! The loaders: the proved one, and two other readings of the rules. These share the numbers of
+//! [`crate::rules`] with each other and nothing with the proved one.
 //!
 //! - [`second`]: a loader that places items by sets of spans
 //! - [`model`]: checks and places as the rules say them, one address at a time

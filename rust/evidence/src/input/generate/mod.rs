@@ -48,13 +48,13 @@ pub fn case(seed: u64, index: u64) -> Case {
 /// The submission of an index, made for the review program's board.
 pub fn review_submission(seed: u64, index: u64) -> Vec<u8> {
     let mut rng = Rng::of_case(seed, index);
-    let draft = sound(&mut rng, review_board);
+    let draft = sound(&mut rng, for_review);
     let times = rng.below(2) as usize;
     let damages = damage::of_submission();
     damage::damaged(&mut rng, draft, &damages, times, String::new()).submission
 }
 
-fn review_board(rng: &mut Rng, _: &Needs) -> Board {
+fn for_review(rng: &mut Rng, _: &Needs) -> Board {
     Board {
         pairs: review_board::pairs().to_vec(),
         load_addr: FLOOR + rng.pick(&[0, 0, 0, 4, 0x1000, 0xB_F00]),

@@ -21,7 +21,6 @@ pub struct Kernel {
     pub header_offset: u64,
     /// are modules to stand on page boundaries?
     pub pages: bool,
-    pub load_offset: u64,
     pub start: u64,
     pub load_end: u64,
     pub extent_end: u64,
@@ -39,7 +38,6 @@ pub fn read(image: &[u8]) -> Result<Kernel, Refused> {
     Ok(Kernel {
         header_offset: header.offset as u64,
         pages: header.flags & u64::from(PAGE_ALIGNED) != 0,
-        load_offset: header.load_offset() as u64,
         start: header.load_addr as u64,
         load_end: header.load_end() as u64,
         extent_end: header.load_end().max(header.bss_end_addr) as u64,

@@ -1,5 +1,4 @@
-//! The rules as they are said, one after the other and one address at a time. It shares no code
-//! with the second loader.
+//! The rules as they are said, one after the other and one address at a time.
 //!
 //! Each check is a list of rules, and refuses where one of them is broken. Placing asks every
 //! address in turn: exact for every board, but quick only for small ones.

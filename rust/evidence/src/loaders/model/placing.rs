@@ -1,5 +1,4 @@
-//! Usable, open and placing, decided by asking every address in turn. Exact for every board, but
-//! quick only for small ones. It shares no code with the second loader's placing.
+//! Usable, open and placing (checks 15 to 17), decided by asking every address in turn.
 
 use crate::input::pair::Pair;
 use crate::rules::limits::{ADDRESS_SPACE, FLOOR, KIB, MAX_MEM_LOWER, RAM};
