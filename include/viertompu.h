@@ -57,6 +57,7 @@ extern "C" {
 
 #define VIERTOMPU_ANSWER_NUMBER(name, number, reason) name = number,
 enum viertompu_answer { VIERTOMPU_ANSWERS(VIERTOMPU_ANSWER_NUMBER) };
+#undef VIERTOMPU_ANSWER_NUMBER
 
 /* When an answer of this number is given, in a sentence. */
 static inline const char *viertompu_reason(uint32_t number)
@@ -64,6 +65,7 @@ static inline const char *viertompu_reason(uint32_t number)
     switch (number) {
 #define VIERTOMPU_ANSWER_REASON(name, number, reason) case number: return reason;
         VIERTOMPU_ANSWERS(VIERTOMPU_ANSWER_REASON)
+#undef VIERTOMPU_ANSWER_REASON
     default: return "there is no such answer";
     }
 }

@@ -81,28 +81,25 @@ fn writes_before_it_refuses(case: &Case, window: &mut [u8]) -> Words {
     words
 }
 
-/// Does holding the loader against the second one find it out?
-fn caught_beside_the_second(loader: Loader) -> bool {
-    (0..CASES).any(|index| {
-        let case = generate::case(1, index);
-        same(&case, &run(loader, &case), &run(second::load, &case)).is_err()
-    })
+/// Does a judge find fault with what the loader leaves behind in some case?
+fn caught(loader: Loader, is_wrong: fn(&Case, &Outcome) -> bool) -> bool {
+    let mut cases = (0..CASES).map(|index| generate::case(1, index));
+    cases.any(|case| is_wrong(&case, &run(loader, &case)))
 }
 
-/// Does reading its loads and refusals find it out, without another loader?
-fn caught_by_reading(loader: Loader) -> bool {
-    (0..CASES).any(|index| {
-        let case = generate::case(1, index);
-        sound(&case, &run(loader, &case)).is_err()
-    })
+/// Holds an outcome against the second loader's.
+fn beside_the_second(case: &Case, outcome: &Outcome) -> bool {
+    same(case, outcome, &run(second::load, case)).is_err()
 }
 
-/// Does the address-by-address model find it out?
-fn caught_by_address(loader: Loader) -> bool {
-    (0..CASES).any(|index| {
-        let case = generate::case(1, index);
-        agrees(&case, &run(loader, &case), SMALL_BOARD).is_err()
-    })
+/// Reads a load or a refusal, without another loader.
+fn by_reading(case: &Case, outcome: &Outcome) -> bool {
+    sound(case, outcome).is_err()
+}
+
+/// Asks the address-by-address model.
+fn by_address(case: &Case, outcome: &Outcome) -> bool {
+    agrees(case, outcome, SMALL_BOARD).is_err()
 }
 
 /// Their loads and refusals show that they are wrong.
@@ -122,29 +119,29 @@ const WRONG_BESIDE_ANOTHER: [(&str, Loader); 2] =
 #[test]
 fn comparison_catches_wrong_loaders() {
     for (name, loader) in WRONG_BY_THEMSELVES.into_iter().chain(WRONG_BESIDE_ANOTHER) {
-        assert!(caught_beside_the_second(loader), "{name}");
+        assert!(caught(loader, beside_the_second), "{name}");
     }
 }
 
 #[test]
 fn reading_a_load_catches_wrong_loaders() {
     for (name, loader) in WRONG_BY_THEMSELVES {
-        assert!(caught_by_reading(loader), "{name}");
+        assert!(caught(loader, by_reading), "{name}");
     }
 }
 
 #[test]
 fn the_model_catches_wrong_loaders() {
     for (name, loader) in WRONG_BESIDE_ANOTHER {
-        assert!(caught_by_address(loader), "{name}");
+        assert!(caught(loader, by_address), "{name}");
     }
 }
 
 #[test]
 fn none_finds_fault_with_the_second_itself() {
-    assert!(!caught_beside_the_second(second::load));
-    assert!(!caught_by_reading(second::load));
-    assert!(!caught_by_address(second::load));
+    assert!(!caught(second::load, beside_the_second));
+    assert!(!caught(second::load, by_reading));
+    assert!(!caught(second::load, by_address));
 }
 
 #[test]
