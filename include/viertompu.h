@@ -17,7 +17,8 @@ extern "C" {
 #endif
 
 /*
- * The answers: name, number, and when it is given. The checks are made in this order; the first that applies is the answer.
+ * The answers: name, number, and when it is given. The checks are made in this order, 9 to 13 for address fields alone and 18 to
+ * 20 for an ELF image alone; the first that applies is the answer.
  * What the sentences speak of:
  *
  *     the map, a pair           the memory map, below; the addresses from base up to base + length
@@ -31,7 +32,15 @@ extern "C" {
  *     bss_end_addr, entry_addr
  *     the load offset           in the image: the header's offset - (header_addr - load_addr)
  *     the load end              load_end_addr; where that is 0, load_addr plus the bytes of the image from the load offset on
- *     the kernel's extent       from load_addr up to load end or bss_end_addr, whichever is greater
+ *     a segment                 a stretch of the kernel: load bytes, and zeros behind them. With address fields there is one: the load
+ *                               bytes go from load_addr up to the load end, the zeros up to bss_end_addr. In an ELF image it is a
+ *                               loadable program header (type 1) whose memory size is not 0: its file bytes go to its physical
+ *                               address, zeros follow up to its memory size
+ *     the ELF mark              the bytes 7F 45 4C 46, with which an ELF image begins; where flag bit 16 is set, the address fields
+ *                               decide in an ELF image too
+ *     the table, an entry       the program headers of an ELF image, of every type; one of them
+ *     the entry                 entry_addr, or the ELF header's e_entry as a physical address
+ *     the kernel's extents      the addresses of its segments, zeros included
  *     room                      an address from 0x100000 up, on a boundary of 4 (for modules 4,096 where flag bit 0 is set), from
  *                               which on all is open and apart from the kernel and from what was placed before
  */
@@ -44,14 +53,17 @@ extern "C" {
     ANSWER(VIERTOMPU_BAD_MEMORY_MAP, 5, "the map is empty, over 4,096 bytes, has over 32 pairs, or a pair has a size under 20 or runs past the map's end") \
     ANSWER(VIERTOMPU_NO_HEADER, 6, "the image has no header") \
     ANSWER(VIERTOMPU_UNKNOWN_REQUEST, 7, "one of the header's flag bits 2 to 15 is set") \
-    ANSWER(VIERTOMPU_NO_ADDRESS_FIELDS, 8, "the header's flag bit 16 is clear") \
+    ANSWER(VIERTOMPU_NO_ADDRESS_FIELDS, 8, "the header's flag bit 16 is clear, and the image does not begin with the ELF mark") \
     ANSWER(VIERTOMPU_HEADER_CUT_OFF, 9, "the 32 bytes of header and address fields do not lie inside both the image and its first 8,192 bytes") \
     ANSWER(VIERTOMPU_LOAD_BEFORE_IMAGE, 10, "load_addr is above header_addr, or their difference is above the header's offset") \
     ANSWER(VIERTOMPU_NOTHING_TO_LOAD, 11, "load_end_addr is 0, and no byte of the image is left from the load offset on") \
     ANSWER(VIERTOMPU_LOAD_PAST_IMAGE, 12, "load_end_addr is not 0 and below load_addr, or the load ends beyond the image") \
     ANSWER(VIERTOMPU_BSS_BELOW_LOAD_END, 13, "bss_end_addr is not 0 and below the load end") \
-    ANSWER(VIERTOMPU_ENTRY_OUTSIDE_LOAD, 14, "entry_addr is below load_addr, or not below the load end") \
-    ANSWER(VIERTOMPU_KERNEL_NOT_OPEN, 15, "an address of the kernel's extent is not open") \
+    ANSWER(VIERTOMPU_BAD_ELF, 18, "the ELF image is under 52 bytes, is not of class 1, data 1, type 2, machine 3 and entry size 32, has its table beyond the image or over 16 entries in it, or has no segment") \
+    ANSWER(VIERTOMPU_BAD_PROGRAM_HEADER, 19, "a loadable program header has file bytes outside the image, or a file size above its memory size") \
+    ANSWER(VIERTOMPU_SEGMENTS_OVERLAP, 20, "two segments share an address") \
+    ANSWER(VIERTOMPU_ENTRY_OUTSIDE_LOAD, 14, "the entry lies in no segment's load bytes") \
+    ANSWER(VIERTOMPU_KERNEL_NOT_OPEN, 15, "an address of the kernel's extents is not open") \
     ANSWER(VIERTOMPU_NO_ROOM_FOR_MODULE, 16, "there is no room for a module; the item is its index, counted from 0") \
     ANSWER(VIERTOMPU_NO_ROOM_FOR_BLOCK, 17, "there is no room for the information block")
 
@@ -146,12 +158,13 @@ uint32_t viertompu_load(const uint8_t *submission, size_t submission_len,
 /*
  * For boot code (samples/boot.c is an example without a C library):
  *
- * - The code is for x86-64, in long mode, in ELF and independent of its place. It needs memcpy and memset from you, by System
- *   V's calls, and nothing else: no other symbol, no heap, no thread-local storage, no system call. It keeps no state.
+ * - The archive has code and a table of constants (.text, .rodata) for x86-64, in long mode, in ELF and independent of their
+ *   place. It needs memcpy and memset from you, by System V's calls, and nothing else: no other symbol, no heap, no thread-local
+ *   storage, no system call. It keeps no state.
  * - Where the window is the memory itself, code, stack, plan and all that is lent must lie outside it: the library knows of
  *   the map, the kernel and its modules alone. A window at address 0 needs another mapping, since a pointer to it is null.
  * - It uses the SSE registers, so that CR4.OSFXSR must be set, and CR0.EM and CR0.TS clear; it uses neither x87, MMX nor AVX.
- * - It takes about 7.2 KB of stack, which must be aligned to 16 bytes where the call is made, as the System V calls ask. It
+ * - It takes about 7.9 KB of stack, which must be aligned to 16 bytes where the call is made, as the System V calls ask. It
  *   writes nothing below the stack pointer (no red zone), so that interrupts may run on the same stack if it has room for
  *   them.
  */

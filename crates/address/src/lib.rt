@@ -3,7 +3,7 @@ ghost use mathlib.Core.Path.{_≡_};
 ghost use Prim.Native.Nat.{_-_, _<_, _^_};
 ghost use lib.Dec.{ltb};
 ghost use Rattle.address.specs.Address.{top, boundaryOf, floor, roundUp, inside};
-ghost use Rattle.address.specs.Span.{noSpan};
+ghost use Rattle.address.specs.Span.{noSpan, overlap};
 
 // A physical address, or the end of a span of them: an exact whole number.
 pub struct PhysAddr(pub u64);
@@ -99,5 +99,15 @@ impl Span {
             return false;
         }
         a.0 < self.end.0
+    }
+
+    // Whether two spans that are not empty share an address.
+    pub fn overlaps(self, other: Span) -> bool
+        ensures { λ r. ⌜ r ≡ overlap self other ⌝ }
+    {
+        if other.end.0 <= self.start.0 {
+            return false;
+        }
+        other.start.0 < self.end.0
     }
 }

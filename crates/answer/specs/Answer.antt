@@ -8,7 +8,7 @@ use mathlib.Core.Bool.{Bool, cond}
 use Prim.Native.Nat.{ℕ}
 use lib.Dec.{eqb}
 use Rattle.answer.specs.declared.Answer.{Answer}
-use Rattle.answer.specs.declared.Answer.the-variants.{Load, NotASubmission, BadSubmission, BadOperatorLine, WindowPastTop, BadMemoryMap, NoHeader, UnknownRequest, NoAddressFields, HeaderCutOff, LoadBeforeImage, NothingToLoad, LoadPastImage, BssBelowLoadEnd, EntryOutsideLoad, KernelNotOpen, NoRoomForModule, NoRoomForBlock}
+use Rattle.answer.specs.declared.Answer.the-variants.{Load, NotASubmission, BadSubmission, BadOperatorLine, WindowPastTop, BadMemoryMap, NoHeader, UnknownRequest, NoAddressFields, HeaderCutOff, LoadBeforeImage, NothingToLoad, LoadPastImage, BssBelowLoadEnd, BadElf, BadProgramHeader, SegmentsOverlap, EntryOutsideLoad, KernelNotOpen, NoRoomForModule, NoRoomForBlock}
 
 abbrev pub numberOf : Answer → ℕ
 numberOf Load = 0
@@ -25,6 +25,9 @@ numberOf LoadBeforeImage = 10
 numberOf NothingToLoad = 11
 numberOf LoadPastImage = 12
 numberOf BssBelowLoadEnd = 13
+numberOf BadElf = 18
+numberOf BadProgramHeader = 19
+numberOf SegmentsOverlap = 20
 numberOf EntryOutsideLoad = 14
 numberOf KernelNotOpen = 15
 numberOf (NoRoomForModule i) = 16
@@ -45,6 +48,9 @@ itemOf LoadBeforeImage = 0
 itemOf NothingToLoad = 0
 itemOf LoadPastImage = 0
 itemOf BssBelowLoadEnd = 0
+itemOf BadElf = 0
+itemOf BadProgramHeader = 0
+itemOf SegmentsOverlap = 0
 itemOf EntryOutsideLoad = 0
 itemOf KernelNotOpen = 0
 itemOf (NoRoomForModule i) = i

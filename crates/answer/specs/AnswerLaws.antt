@@ -1,13 +1,13 @@
 -- Laws of the numbered answers.
 --     item-none      every answer but 16 has the item 0
---     number-most    there are 17 refusals
+--     number-most    no number is above 20
 -- Assumes nothing.
 use mathlib.Core.Path.{_≡_, refl}
 use Prim.Native.Nat.{_≤_}
 use native.Mathlib.Omega.{arith}
 use Rattle.answer.specs.Answer.{numberOf, itemOf}
 use Rattle.answer.specs.declared.Answer.{Answer}
-use Rattle.answer.specs.declared.Answer.the-variants.{Load, NotASubmission, BadSubmission, BadOperatorLine, WindowPastTop, BadMemoryMap, NoHeader, UnknownRequest, NoAddressFields, HeaderCutOff, LoadBeforeImage, NothingToLoad, LoadPastImage, BssBelowLoadEnd, EntryOutsideLoad, KernelNotOpen, NoRoomForModule, NoRoomForBlock}
+use Rattle.answer.specs.declared.Answer.the-variants.{Load, NotASubmission, BadSubmission, BadOperatorLine, WindowPastTop, BadMemoryMap, NoHeader, UnknownRequest, NoAddressFields, HeaderCutOff, LoadBeforeImage, NothingToLoad, LoadPastImage, BssBelowLoadEnd, BadElf, BadProgramHeader, SegmentsOverlap, EntryOutsideLoad, KernelNotOpen, NoRoomForModule, NoRoomForBlock}
 
 pub item-none : (a : Answer) → (numberOf a ≡ 16 → ⊥) → itemOf a ≡ 0
 item-none Load h = refl
@@ -24,12 +24,15 @@ item-none LoadBeforeImage h = refl
 item-none NothingToLoad h = refl
 item-none LoadPastImage h = refl
 item-none BssBelowLoadEnd h = refl
+item-none BadElf h = refl
+item-none BadProgramHeader h = refl
+item-none SegmentsOverlap h = refl
 item-none EntryOutsideLoad h = refl
 item-none KernelNotOpen h = refl
 item-none (NoRoomForModule i) h = absurd (h refl)
 item-none NoRoomForBlock h = refl
 
-pub number-most : (a : Answer) → numberOf a ≤ 17
+pub number-most : (a : Answer) → numberOf a ≤ 20
 number-most Load = omega arith
 number-most NotASubmission = omega arith
 number-most BadSubmission = omega arith
@@ -44,6 +47,9 @@ number-most LoadBeforeImage = omega arith
 number-most NothingToLoad = omega arith
 number-most LoadPastImage = omega arith
 number-most BssBelowLoadEnd = omega arith
+number-most BadElf = omega arith
+number-most BadProgramHeader = omega arith
+number-most SegmentsOverlap = omega arith
 number-most EntryOutsideLoad = omega arith
 number-most KernelNotOpen = omega arith
 number-most (NoRoomForModule i) = omega arith

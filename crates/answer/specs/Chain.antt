@@ -1,21 +1,22 @@
--- The order of checks: which of them is the first that applies.                        rule: ANSWERS
---     appliesNo    whether the check of an index applies
---     First        the check of an index is the first that does
+-- The order of checks.                                                                rule: ANSWERS
+--     checkOrder    the numbers of the refusals in the order of checks
+--     placeIn       how many numbers stand before a number
+--     Before        of two refusals, which is checked first
 -- Assumes nothing.
-use mathlib.Core.Path.{_≡_}
-use mathlib.Core.Bool.{Bool, true, false}
+use mathlib.Core.Bool.{cond}
 use mathlib.Core.List.{List, [], _∷_}
-use Prim.Native.Nat.{ℕ, zero, suc, _<_}
-use Rattle.laws.specs.Checks.{Check}
-use Rattle.answer.specs.declared.Answer.{Answer}
+use Prim.Native.Nat.{ℕ, suc, _<_}
+use lib.Dec.{eqb}
 
--- whether the check of the index k applies
-abbrev pub appliesNo : List (Check Answer) → ℕ → Bool
-appliesNo [] k = false
-appliesNo (c ∷ ks) zero = c .applies
-appliesNo (c ∷ ks) (suc k) = appliesNo ks k
+-- 9 to 13 are about address fields, 18 to 20 about an ELF image
+abbrev pub checkOrder : List ℕ
+checkOrder = 1 ∷ 2 ∷ 3 ∷ 4 ∷ 5 ∷ 6 ∷ 7 ∷ 8 ∷ 9 ∷ 10 ∷ 11 ∷ 12 ∷ 13 ∷ 18 ∷ 19 ∷ 20 ∷ 14 ∷ 15 ∷ 16 ∷ 17 ∷ []
 
--- the check of the index k is the first that applies
-pub record First (ks : List (Check Answer)) (k : ℕ) : Type 0 where
-  pub applies : appliesNo ks k ≡ true
-  pub earliest : (j : ℕ) → j < k → appliesNo ks j ≡ false
+-- how many numbers stand before k: all of them where k is not there
+unfoldable pub placeIn : List ℕ → ℕ → ℕ
+placeIn [] k = 0
+placeIn (n ∷ ns) k = cond (eqb n k) 0 (suc (placeIn ns k))
+
+-- the refusal j is checked before the refusal k
+abbrev pub Before : ℕ → ℕ → Type 0
+Before j k = placeIn checkOrder j < placeIn checkOrder k

@@ -1,35 +1,43 @@
 -- Stages of checks, one after the other: a chain answers with its first refusal.
---     refuses                                   every check of a chain has a refusal for its answer
+--     refuses, refuses-append                   every check of a chain has a refusal for its answer
 --     chain-append                              where a stage does not refuse, the next one decides
 --     or-else-first, -second, -same, -load      laws of the first of two answers that refuses
 --     passes-is, load-is                        a stage passes exactly where its answer is a load; that answer is Load
 --     check-passed                              in a chain that ends in a load no check applied
---     appliesNo, applies-front, applies-past    the check of an index, in a chain's first part and past its end
---     answerNo, First, first-answer             the first check that applies gives its answer
---     numberedFrom                              checks that are numbered one after the other
---     number-given, number-first                a number is given exactly where its check is the first that applies
+--     numbers, distinct                         the numbers of a chain, each given once
+--     applies-other, applies-front              a number that no check has, and one of a chain's first part
+--     appliesFor, answerFor                     whether the check of a number applies, and its answer
+--     first-answer, answer-number               the first check that applies gives its answer
+--     number-first                              a number is given only where its check is the first that applies
 --     none-given, none-applies                  0 is given exactly where none applies
 -- Assumes nothing.
-use mathlib.Core.Path.{_≡_, refl, sym, _∙_}
+use mathlib.Core.Path.{_≡_, refl, sym, ap, _∙_}
 use mathlib.Core.Bool.{Bool, true, false, cond, not, _&&_, false≢true}
 use mathlib.Core.List.{List, [], _∷_, _++_}
-use mathlib.Core.Logic.{⊎-elim, _⊎_, inl, inr}
-use Prim.Native.Nat.{ℕ, zero, suc, _+_, _≤_, _<_}
+use mathlib.Core.Logic.{⊎-elim, _⊎_}
+use Prim.Native.Nat.{ℕ, suc, _+_, _≤_, _<_}
 use native.Mathlib.Omega.{arith}
-use borrow.Author.Tests.{eqb-true, not-true}
+use borrow.Author.Tests.{eqb-true, eq-eqb, not-true}
 use lib.Dec.{eqb}
 use lib.ListN.{length}
 use Rattle.laws.specs.Checks.{Check, firstOf, passes, _gives_}
-use Rattle.laws.specs.CheckLaws.{passes-on}
-use Rattle.laws.specs.TestLaws.{and-left, and-right}
+use Rattle.laws.specs.CheckLaws.{passes-on, and-both}
+use Rattle.laws.specs.TestLaws.{true-or-false, and-left, and-right}
 use Rattle.answer.specs.Answer.{numberOf, isLoad, orElse}
 use Rattle.answer.specs.declared.Answer.{Answer}
 use Rattle.answer.specs.declared.Answer.the-variants.{Load}
-use Rattle.answer.specs.Chain.{appliesNo, First}
+use Rattle.answer.specs.Chain.{placeIn}
 
 unfoldable pub refuses : List (Check Answer) → Bool
 refuses [] = true
 refuses (k ∷ ks) = not (isLoad (k .answer)) && refuses ks
+
+pub refuses-append : (ks ls : List (Check Answer)) → refuses ks ≡ true → refuses ls ≡ true → refuses (ks ++ ls) ≡ true
+unfolding refuses
+refuses-append [] ls e f = f
+refuses-append (k ∷ ks) ls e f =
+    and-both (not (isLoad (k .answer))) (refuses (ks ++ ls)) (and-left (not (isLoad (k .answer))) (refuses ks) e)
+    (refuses-append ks ls (and-right (not (isLoad (k .answer))) (refuses ks) e) f)
 
 -- one check in front
 by-test : (t : Bool) (a r s : Answer) → not (isLoad a) ≡ true → cond t a (orElse r s) ≡ orElse (cond t a r) s
@@ -92,120 +100,190 @@ unfolding firstOf
 check-passed true a ks n e = let z : isLoad a ≡ true = rw e in absurd (false≢true (sym n ∙ z))
 check-passed false a ks n e = (refl, e)
 
--- the checks of a chain's first part
-pub applies-front : (ks ls : List (Check Answer)) (k : ℕ) → k < length ks → appliesNo (ks ++ ls) k ≡ appliesNo ks k
+-- the numbers of a chain's checks, in their order
+unfoldable pub numbers : List (Check Answer) → List ℕ
+numbers [] = []
+numbers (c ∷ ks) = numberOf (c .answer) ∷ numbers ks
+
+-- no number comes twice
+unfoldable pub distinct : List ℕ → Bool
+distinct [] = true
+distinct (n ∷ ns) = eqb (placeIn ns n) (length ns) && distinct ns
+
+-- a number stands first in a list, or behind the first
+pub place-here : (n k : ℕ) (ns : List ℕ) → eqb n k ≡ true → placeIn (n ∷ ns) k ≡ 0
+unfolding placeIn
+place-here n k ns e = rw e
+
+pub place-later : (n k : ℕ) (ns : List ℕ) → eqb n k ≡ false → placeIn (n ∷ ns) k ≡ suc (placeIn ns k)
+unfolding placeIn
+place-later n k ns e = rw e
+
+place-most : (ns : List ℕ) (k : ℕ) → placeIn ns k ≤ length ns
+unfolding placeIn
+place-most [] k = omega arith
+place-most (n ∷ ns) k =
+    ⊎-elim
+    (λ (t : eqb n k ≡ true). rw t (omega arith))
+    (λ (t : eqb n k ≡ false). rw t (omega (arith, place-most ns k)))
+    (true-or-false (eqb n k))
+
+length-numbers : (ks : List (Check Answer)) → length (numbers ks) ≡ length ks
+unfolding numbers
+length-numbers [] = refl
+length-numbers (c ∷ ks) = omega (arith, length-numbers ks)
+
+-- whether the check of the number k applies, and its answer
+unfoldable pub appliesFor : List (Check Answer) → ℕ → Bool
+appliesFor [] k = false
+appliesFor (c ∷ ks) k = cond (eqb (numberOf (c .answer)) k) (c .applies) (appliesFor ks k)
+
+unfoldable pub answerFor : List (Check Answer) → ℕ → Answer
+answerFor [] k = Load
+answerFor (c ∷ ks) k = cond (eqb (numberOf (c .answer)) k) (c .answer) (answerFor ks k)
+
+pub answer-number : (ks : List (Check Answer)) (k : ℕ) → appliesFor ks k ≡ true → numberOf (answerFor ks k) ≡ k
+unfolding appliesFor answerFor
+answer-number [] k e = absurd (false≢true e)
+answer-number (c ∷ ks) k e =
+    ⊎-elim
+    (λ (t : eqb (numberOf (c .answer)) k ≡ true). rw t (eqb-true _ _ t))
+    (λ (t : eqb (numberOf (c .answer)) k ≡ false). rw t (answer-number ks k (rw t at e)))
+    (true-or-false (eqb (numberOf (c .answer)) k))
+
+-- no check has the number k
+pub applies-other : (ks : List (Check Answer)) (k : ℕ) → length ks ≤ placeIn (numbers ks) k → appliesFor ks k ≡ false
+unfolding appliesFor numbers
+applies-other [] k l = refl
+applies-other (c ∷ ks) k l =
+    ⊎-elim
+    (λ (t : eqb (numberOf (c .answer)) k ≡ true). absurd (omega (arith, place-here (numberOf (c .answer)) k (numbers ks) t)))
+    (λ (t : eqb (numberOf (c .answer)) k ≡ false). rw t (applies-other ks k (omega (arith, place-later (numberOf (c .answer)) k (numbers ks) t))))
+    (true-or-false (eqb (numberOf (c .answer)) k))
+
+-- a check of the first of two chains
+pub applies-front : (ks ls : List (Check Answer)) (k : ℕ) → placeIn (numbers ks) k < length ks
+    → (appliesFor (ks ++ ls) k ≡ appliesFor ks k) × (placeIn (numbers (ks ++ ls)) k ≡ placeIn (numbers ks) k)
+unfolding appliesFor numbers placeIn
 applies-front [] ls k l = absurd (omega arith)
-applies-front (c ∷ ks) ls zero l = refl
-applies-front (c ∷ ks) ls (suc k) l = applies-front ks ls k (omega arith)
+applies-front (c ∷ ks) ls k l =
+    ⊎-elim
+    (λ (t : eqb (numberOf (c .answer)) k ≡ true). rw t (refl, refl))
+    (λ (t : eqb (numberOf (c .answer)) k ≡ false).
+    let m : placeIn (numbers ks) k < length ks = omega (arith, place-later (numberOf (c .answer)) k (numbers ks) t) in
+    let r = applies-front ks ls k m in
+    rw t (r .0, ap suc (r .1)))
+    (true-or-false (eqb (numberOf (c .answer)) k))
 
-pub applies-past : (ks : List (Check Answer)) (k : ℕ) → length ks ≤ k → appliesNo ks k ≡ false
-applies-past [] k l = refl
-applies-past (c ∷ ks) zero l = absurd (omega arith)
-applies-past (c ∷ ks) (suc k) l = applies-past ks k (omega arith)
+-- the first check of a chain whose numbers are distinct
+module _ (c : Check Answer) (ks : List (Check Answer)) (d : distinct (numbers (c ∷ ks)) ≡ true) where
+  distinct-rest : distinct (numbers ks) ≡ true
+  unfolding distinct numbers
+  distinct-rest = and-right (eqb (placeIn (numbers ks) (numberOf (c .answer))) (length (numbers ks))) (distinct (numbers ks)) d
 
--- the answer of the check of the index k
-abbrev pub answerNo : List (Check Answer) → ℕ → Answer
-answerNo [] k = Load
-answerNo (c ∷ ks) zero = c .answer
-answerNo (c ∷ ks) (suc k) = answerNo ks k
+  -- its number is none of the others
+  alone : placeIn (numbers ks) (numberOf (c .answer)) ≡ length (numbers ks)
+  unfolding distinct numbers
+  alone = eqb-true _ _ (and-left (eqb (placeIn (numbers ks) (numberOf (c .answer))) (length (numbers ks))) (distinct (numbers ks)) d)
+
+  alone-applies : (k : ℕ) → eqb (numberOf (c .answer)) k ≡ true → appliesFor ks k ≡ false
+  alone-applies k t =
+      let e : placeIn (numbers ks) (numberOf (c .answer)) ≡ placeIn (numbers ks) k = ap (placeIn (numbers ks)) (eqb-true _ _ t) in
+      applies-other ks k (omega (arith, alone, length-numbers ks))
+
+  -- what no check before k does, none of the rest before k does
+  rest-earlier : (k : ℕ) → eqb (numberOf (c .answer)) k ≡ false
+      → ((j : ℕ) → placeIn (numbers (c ∷ ks)) j < placeIn (numbers (c ∷ ks)) k → appliesFor (c ∷ ks) j ≡ false)
+      → (j : ℕ) → placeIn (numbers ks) j < placeIn (numbers ks) k → appliesFor ks j ≡ false
+  unfolding appliesFor numbers
+  rest-earlier k t h j l =
+      ⊎-elim
+      (λ (u : eqb (numberOf (c .answer)) j ≡ true). alone-applies j u)
+      (λ (u : eqb (numberOf (c .answer)) j ≡ false).
+      rw u at (h j (omega (arith, place-later (numberOf (c .answer)) j (numbers ks) u, place-later (numberOf (c .answer)) k (numbers ks) t))))
+      (true-or-false (eqb (numberOf (c .answer)) j))
 
 -- the first check that applies gives the answer
-pub first-answer : (ks : List (Check Answer)) (k : ℕ) → First ks k → firstOf ks Load ≡ answerNo ks k
-unfolding firstOf
-first-answer [] k f = absurd (false≢true (f .applies))
-first-answer (c ∷ ks) zero f = rw (f .applies)
-first-answer (c ∷ ks) (suc k) f =
-    rw (f .earliest 0 (omega arith)) (first-answer ks k (record { applies = f .applies; earliest = λ j l. f .earliest (suc j) (omega arith) }))
+pub first-answer : (ks : List (Check Answer)) (k : ℕ) → distinct (numbers ks) ≡ true → appliesFor ks k ≡ true
+    → ((j : ℕ) → placeIn (numbers ks) j < placeIn (numbers ks) k → appliesFor ks j ≡ false)
+    → firstOf ks Load ≡ answerFor ks k
+unfolding firstOf appliesFor answerFor numbers
+first-answer [] k d e h = refl
+first-answer (c ∷ ks) k d e h =
+    ⊎-elim
+    (λ (t : eqb (numberOf (c .answer)) k ≡ true). let a : c .applies ≡ true = rw t at e in rw (t, a) refl)
+    (λ (t : eqb (numberOf (c .answer)) k ≡ false).
+    let s = eq-eqb (numberOf (c .answer)) (numberOf (c .answer)) refl in
+    let a : c .applies ≡ false =
+    rw s at (h (numberOf (c .answer)) (omega (arith, place-here (numberOf (c .answer)) (numberOf (c .answer)) (numbers ks) s, place-later (numberOf (c .answer)) k (numbers ks) t))) in
+    rw (t, a) (first-answer ks k (distinct-rest c ks d) (rw t at e) (rest-earlier c ks d k t h)))
+    (true-or-false (eqb (numberOf (c .answer)) k))
 
--- the checks are numbered one after the other, from n on
-unfoldable pub numberedFrom : ℕ → List (Check Answer) → Bool
-numberedFrom n [] = true
-numberedFrom n (k ∷ ks) = eqb (numberOf (k .answer)) n && numberedFrom (suc n) ks
+module _ (c : Check Answer) (ks : List (Check Answer)) (d : distinct (numbers (c ∷ ks)) ≡ true) (a : c .applies ≡ false) where
+  -- behind a check that does not apply
+  behind-earlier : (k : ℕ) → ((j : ℕ) → placeIn (numbers ks) j < placeIn (numbers ks) k → appliesFor ks j ≡ false)
+      → (j : ℕ) → placeIn (numbers (c ∷ ks)) j < suc (placeIn (numbers ks) k) → appliesFor (c ∷ ks) j ≡ false
+  unfolding appliesFor numbers
+  behind-earlier k h j l =
+      ⊎-elim
+      (λ (u : eqb (numberOf (c .answer)) j ≡ true). rw u a)
+      (λ (u : eqb (numberOf (c .answer)) j ≡ false). rw u (h j (omega (arith, place-later (numberOf (c .answer)) j (numbers ks) u))))
+      (true-or-false (eqb (numberOf (c .answer)) j))
 
-module _ (n : ℕ) (c : Check Answer) (ks : List (Check Answer)) (e : numberedFrom n (c ∷ ks) ≡ true) where
-  number-here : numberOf (c .answer) ≡ n
-  unfolding numberedFrom
-  number-here = eqb-true _ _ (and-left (eqb (numberOf (c .answer)) n) (numberedFrom (suc n) ks) e)
+  -- the number of a check behind it is another one
+  behind-other : (k : ℕ) → appliesFor ks k ≡ true → eqb (numberOf (c .answer)) k ≡ false
+  behind-other k e =
+      ⊎-elim
+      (λ (u : eqb (numberOf (c .answer)) k ≡ true). absurd (false≢true (sym (alone-applies c ks d k u) ∙ e)))
+      (λ (u : eqb (numberOf (c .answer)) k ≡ false). u)
+      (true-or-false (eqb (numberOf (c .answer)) k))
 
-  numbered-rest : numberedFrom (suc n) ks ≡ true
-  unfolding numberedFrom
-  numbered-rest = and-right (eqb (numberOf (c .answer)) n) (numberedFrom (suc n) ks) e
-
-  -- what the first check of a chain makes of its number
-  by-first : (t : Bool) → c .applies ≡ t → (P : Bool → ℕ → Type 0) → P true n → P false (numberOf (firstOf ks Load)) → P t (numberOf (firstOf (c ∷ ks) Load))
-  unfolding firstOf
-  by-first true a P p q = rw (a, number-here) p
-  by-first false a P p q = rw a q
-
--- a chain's number is 0, or one of its own
-number-range : (n : ℕ) (ks : List (Check Answer)) → numberedFrom n ks ≡ true → (numberOf (firstOf ks Load) ≡ 0) ⊎ (n ≤ numberOf (firstOf ks Load))
-unfolding firstOf
-number-range n [] e = inl refl
-number-range n (c ∷ ks) e =
-    by-first n c ks e (c .applies) refl (λ t m. (m ≡ 0) ⊎ (n ≤ m)) (inr (omega arith))
-    (⊎-elim (λ z. inl z) (λ l. inr (omega arith)) (number-range (suc n) ks (numbered-rest n c ks e)))
-
--- a number is given where its check is the first that applies
-pub number-given : (n : ℕ) (ks : List (Check Answer)) (k : ℕ) → numberedFrom n ks ≡ true → First ks k → numberOf (firstOf ks Load) ≡ n + k
-unfolding firstOf
-number-given n [] k e f = absurd (false≢true (f .applies))
-number-given n (c ∷ ks) zero e f = rw (f .applies) (number-here n c ks e ∙ omega arith)
-number-given n (c ∷ ks) (suc k) e f =
-    rw (f .earliest 0 (omega arith))
-    (number-given (suc n) ks k (numbered-rest n c ks e) (record { applies = f .applies; earliest = λ j l. f .earliest (suc j) (omega arith) }) ∙ omega arith)
-
-module _ (n : ℕ) (some : 1 ≤ n) (c : Check Answer) (ks : List (Check Answer)) (e : numberedFrom n (c ∷ ks) ≡ true) where
-  first-here : (t : Bool) → c .applies ≡ t → numberOf (firstOf (c ∷ ks) Load) ≡ n + 0 → c .applies ≡ true
-  unfolding firstOf
-  first-here true a h = a
-  first-here false a h =
-      let m : numberOf (firstOf ks Load) ≡ n + 0 = rw a at h in
-      absurd (⊎-elim (λ z. omega arith) (λ l. omega arith) (number-range (suc n) ks (numbered-rest n c ks e)))
-
-  first-later : (t : Bool) → c .applies ≡ t → (k : ℕ) → numberOf (firstOf (c ∷ ks) Load) ≡ n + suc k → (c .applies ≡ false) × (numberOf (firstOf ks Load) ≡ suc n + k)
-  unfolding firstOf
-  first-later true a k h =
-      let m : numberOf (c .answer) ≡ n + suc k = rw a at h in
-      absurd (omega (arith, number-here n c ks e))
-  first-later false a k h =
-      let m : numberOf (firstOf ks Load) ≡ n + suc k = rw a at h in
-      (a, omega arith)
-
--- and only there
-pub number-first : (n : ℕ) → 1 ≤ n → (ks : List (Check Answer)) (k : ℕ) → numberedFrom n ks ≡ true → numberOf (firstOf ks Load) ≡ n + k → First ks k
-unfolding firstOf
-number-first n some [] k e h = absurd (omega arith)
-number-first n some (c ∷ ks) zero e h =
-    record { applies = first-here n some c ks e (c .applies) refl h; earliest = λ j l. absurd (omega arith) }
-number-first n some (c ∷ ks) (suc k) e h =
-    let r = first-later n some c ks e (c .applies) refl k h in
-    let f = number-first (suc n) (omega arith) ks k (numbered-rest n c ks e) (r .1) in
-    record { applies = f .applies; earliest = earlier (r .0) (f .earliest) }
-  where
-    earlier : c .applies ≡ false → ((j : ℕ) → j < k → appliesNo ks j ≡ false) → (j : ℕ) → j < suc k → appliesNo (c ∷ ks) j ≡ false
-    earlier a f zero l = a
-    earlier a f (suc j) l = f j (omega arith)
+-- a number is given only where its check applies, and none before it
+pub number-first : (ks : List (Check Answer)) (k : ℕ) → distinct (numbers ks) ≡ true → 1 ≤ k → numberOf (firstOf ks Load) ≡ k
+    → (appliesFor ks k ≡ true) × ((j : ℕ) → placeIn (numbers ks) j < placeIn (numbers ks) k → appliesFor ks j ≡ false)
+unfolding firstOf appliesFor numbers
+number-first [] k d l e = absurd (omega arith)
+number-first (c ∷ ks) k d l e =
+    ⊎-elim
+    (λ (a : c .applies ≡ true).
+    let n : numberOf (c .answer) ≡ k = rw a at e in
+    let t = eq-eqb (numberOf (c .answer)) k n in
+    (rw t a, λ j m. absurd (omega (arith, place-here (numberOf (c .answer)) k (numbers ks) t))))
+    (λ (a : c .applies ≡ false).
+    let r = number-first ks k (distinct-rest c ks d) l (rw a at e) in
+    let t = behind-other c ks d a k (r .0) in
+    (rw t (r .0), λ j m. behind-earlier c ks d a k (r .1) j (omega (arith, place-later (numberOf (c .answer)) k (numbers ks) t))))
+    (true-or-false (c .applies))
 
 -- the number is 0 exactly where no check applies
-pub none-given : (ks : List (Check Answer)) → ((k : ℕ) → appliesNo ks k ≡ false) → numberOf (firstOf ks Load) ≡ 0
-unfolding firstOf
-none-given [] h = refl
-none-given (c ∷ ks) h = rw (h 0) (none-given ks (λ k. h (suc k)))
-
-pub none-applies : (n : ℕ) → 1 ≤ n → (ks : List (Check Answer)) → numberedFrom n ks ≡ true → numberOf (firstOf ks Load) ≡ 0 → (k : ℕ) → appliesNo ks k ≡ false
-unfolding firstOf
-none-applies n some [] e h k = refl
-none-applies n some (c ∷ ks) e h k = go (c .applies) refl (λ a j. none-applies (suc n) (omega arith) ks (numbered-rest n c ks e) (rest a) j) k
+pub none-given : (ks : List (Check Answer)) → distinct (numbers ks) ≡ true → ((k : ℕ) → appliesFor ks k ≡ false) → numberOf (firstOf ks Load) ≡ 0
+unfolding firstOf appliesFor
+none-given [] d h = refl
+none-given (c ∷ ks) d h =
+    let s = eq-eqb (numberOf (c .answer)) (numberOf (c .answer)) refl in
+    let a : c .applies ≡ false = rw s at (h (numberOf (c .answer))) in
+    rw a (none-given ks (distinct-rest c ks d) rest)
   where
-    rest : c .applies ≡ false → numberOf (firstOf ks Load) ≡ 0
-    rest a = rw a at h
+    rest : (k : ℕ) → appliesFor ks k ≡ false
+    rest k =
+        ⊎-elim
+        (λ (u : eqb (numberOf (c .answer)) k ≡ true). alone-applies c ks d k u)
+        (λ (u : eqb (numberOf (c .answer)) k ≡ false). rw u at (h k))
+        (true-or-false (eqb (numberOf (c .answer)) k))
 
-    never : c .applies ≡ true → ⊥
-    never a =
-        let m : numberOf (c .answer) ≡ 0 = rw a at h in
-        omega (arith, number-here n c ks e)
-
-    go : (t : Bool) → c .applies ≡ t → (c .applies ≡ false → (j : ℕ) → appliesNo ks j ≡ false) → (k : ℕ) → appliesNo (c ∷ ks) k ≡ false
-    go true a r k = absurd (never a)
-    go false a r zero = a
-    go false a r (suc k) = r a k
+pub none-applies : (ks : List (Check Answer)) → refuses ks ≡ true → numberOf (firstOf ks Load) ≡ 0 → (k : ℕ) → appliesFor ks k ≡ false
+unfolding firstOf appliesFor refuses
+none-applies [] r e k = refl
+none-applies (c ∷ ks) r e k =
+    ⊎-elim
+    (λ (a : c .applies ≡ true).
+    let n : numberOf (c .answer) ≡ 0 = rw a at e in
+    let m : isLoad (c .answer) ≡ true = eq-eqb _ _ n in
+    absurd (false≢true (sym (not-true (isLoad (c .answer)) (and-left (not (isLoad (c .answer))) (refuses ks) r)) ∙ m)))
+    (λ (a : c .applies ≡ false).
+    let h = none-applies ks (and-right (not (isLoad (c .answer))) (refuses ks) r) (rw a at e) k in
+    ⊎-elim
+    (λ (u : eqb (numberOf (c .answer)) k ≡ true). rw u a)
+    (λ (u : eqb (numberOf (c .answer)) k ≡ false). rw u h)
+    (true-or-false (eqb (numberOf (c .answer)) k)))
+    (true-or-false (c .applies))

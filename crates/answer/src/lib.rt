@@ -2,7 +2,7 @@
 ghost use mathlib.Core.Path.{_≡_};
 ghost use Rattle.answer.specs.Answer.{numberOf, itemOf, isLoad, orElse};
 
-// Each refusal stands at its number in the order of checks.
+// The refusals in the order of checks.
 pub enum Answer {
     // 0: no check applies: a load
     Load,
@@ -20,7 +20,7 @@ pub enum Answer {
     NoHeader,
     // 7: one of the header's flag bits 2 to 15 is set
     UnknownRequest,
-    // 8: the header's flag bit 16 is clear
+    // 8: the header's flag bit 16 is clear, and the image does not begin with the ELF mark
     NoAddressFields,
     // 9: the 32 bytes of header and address fields do not lie inside both the image and its first 8,192 bytes
     HeaderCutOff,
@@ -32,9 +32,15 @@ pub enum Answer {
     LoadPastImage,
     // 13: bss_end_addr is not 0 and below the load end
     BssBelowLoadEnd,
-    // 14: entry_addr is below load_addr, or not below the load end
+    // 18: the ELF image is under 52 bytes, is not of class 1, data 1, type 2, machine 3 and entry size 32, has its table beyond the image or over 16 entries in it, or has no segment
+    BadElf,
+    // 19: a loadable program header has file bytes outside the image, or a file size above its memory size
+    BadProgramHeader,
+    // 20: two segments share an address
+    SegmentsOverlap,
+    // 14: the entry lies in no segment's load bytes
     EntryOutsideLoad,
-    // 15: an address of the kernel's extent is not open
+    // 15: an address of the kernel's extents is not open
     KernelNotOpen,
     // 16: there is no room for a module; the item is its index, counted from 0
     NoRoomForModule(u32),
@@ -61,6 +67,9 @@ pub fn number(a: Answer) -> u32
         Answer::NothingToLoad => 11,
         Answer::LoadPastImage => 12,
         Answer::BssBelowLoadEnd => 13,
+        Answer::BadElf => 18,
+        Answer::BadProgramHeader => 19,
+        Answer::SegmentsOverlap => 20,
         Answer::EntryOutsideLoad => 14,
         Answer::KernelNotOpen => 15,
         Answer::NoRoomForModule(_) => 16,

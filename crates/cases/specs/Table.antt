@@ -9,12 +9,14 @@ use mathlib.Core.Bool.{Bool, true, false}
 use mathlib.Core.List.{List, [], _∷_, _++_}
 use Prim.Native.Nat.{ℕ, _-_}
 use lib.ListN.{take, drop, replicate}
+use Rattle.laws.specs.Table.{listed}
 use Rattle.buffer.specs.Patched.{patched, zeros}
 use Rattle.number.specs.Number.{numberAt, numberBytes, wordBytes}
 use Rattle.address.specs.Span.{spanNo}
 use Rattle.answer.specs.Answer.{numberOf, itemOf}
 use Rattle.header.specs.Header.{headerMagic}
-use Rattle.image.specs.Kernel.{segmentNo}
+use Rattle.kernel.specs.declared.Kernel.{Kernel}
+use Rattle.kernel.specs.Kernel.{segmentNo}
 use Rattle.decision.specs.declared.Decision.{Decision}
 use Rattle.decision.specs.Lent.{Lent}
 use Rattle.decision.specs.Decision.{decisionOf}
@@ -67,12 +69,16 @@ lentOf input = record { submission = submissionOf input; operator = []; map = bo
 abbrev pub windowOf : Input → List ℕ
 windowOf input = zeros (input .window)
 
--- of the plan: the load offset in the image, and the addresses of the kernel, the first module and the information block
-pub record Places : Type 0 where
+-- of a segment: where it begins in the image, and its addresses
+pub record Stretch : Type 0 where
   pub offset : ℕ
-  pub loadStart : ℕ
+  pub start : ℕ
   pub loadEnd : ℕ
   pub extentEnd : ℕ
+
+-- of the plan: the segments, and the addresses of the entry, the first module and the information block
+pub record Places : Type 0 where
+  pub segments : List Stretch
   pub entry : ℕ
   pub moduleStart : ℕ
   pub moduleEnd : ℕ
@@ -94,20 +100,21 @@ pub record Outcome : Type 0 where
   pub planned : Places
   pub handed : Handed
 
+abbrev stretchOf : Kernel → ℕ → Stretch
+stretchOf k i =
+    let s = segmentNo k i in
+    record { offset = s .offset .0; start = s .start .0; loadEnd = s .«load_end» .0; extentEnd = s .«extent_end» .0 }
+
 -- the columns of a decision, where the window from 0x100000 on holds w
 unfoldable pub columns : Decision → List ℕ → Outcome
 columns d w =
-    let segment = segmentNo (d .plan .kernel) 0 in
     let hello = spanNo (d .plan .modules) 0 in
     let block = drop (d .plan .ebx - 0x100000) w in
     record {
       number = numberOf (d .answer);
       item = itemOf (d .answer);
       planned = record {
-        offset = segment .offset .0;
-        loadStart = segment .start .0;
-        loadEnd = segment .«load_end» .0;
-        extentEnd = segment .«extent_end» .0;
+        segments = listed (stretchOf (d .plan .kernel)) (d .plan .kernel .count);
         entry = d .plan .kernel .entry .0;
         moduleStart = hello .start .0;
         moduleEnd = hello .end .0;
@@ -135,6 +142,10 @@ infix 70 _yields_
 abbrev pub _yields_ : Input → Outcome → Row
 _yields_ i o = record { input = i; outcome = o }
 
+-- offset in the image, start, load end, extent end
+abbrev stretch : ℕ → ℕ → ℕ → ℕ → Stretch
+stretch offset start load end = record { offset = offset; start = start; loadEnd = load; extentEnd = end }
+
 abbrev loaded : Places → Handed → Outcome
 loaded p h = record { number = 0; item = 0; planned = p; handed = h }
 
@@ -143,13 +154,23 @@ abbrev refusal : ℕ → ℕ → Outcome
 refusal number item = record {
   number = number;
   item = item;
-  planned = record { offset = 0; loadStart = 0; loadEnd = 0; extentEnd = 0; entry = 0; moduleStart = 0; moduleEnd = 0; blockStart = 0; blockEnd = 0 };
+  planned = record { segments = []; entry = 0; moduleStart = 0; moduleEnd = 0; blockStart = 0; blockEnd = 0 };
   handed = record { eax = 0; ebx = 0; flags = 0; memLower = 0; memUpper = 0; name = zeros 8 };
 }
 
 -- a header that loads to 0x100000: header_addr, load_end_addr, bss_end_addr, entry_addr, and eight bytes of code
 abbrev loading : ℕ → ℕ → ℕ → ℕ → List ℕ
 loading addr end bss entry = headerMagic ∷ 0x00010001 ∷ 0xE4514FFD ∷ addr ∷ 0x100000 ∷ end ∷ bss ∷ entry ∷ 0xF4F4F4F4 ∷ 0xF4F4F4F4 ∷ []
+
+-- an ELF image of 136 bytes, by its type and machine, its entry, and the second segment's start and file size: the ELF header,
+-- two program headers, which begin with type, offset, virtual and physical address, file and memory size, and behind them a
+-- header without address fields and eight bytes of code
+abbrev linked : ℕ → ℕ → ℕ → ℕ → List ℕ
+linked kind entry start size =
+    0x464C457F ∷ 0x00010101 ∷ 0 ∷ 0 ∷ kind ∷ 1 ∷ entry ∷ 0x34 ∷ 0 ∷ 0 ∷ 0x00200034 ∷ 2 ∷ 0
+    ∷ 1 ∷ 0 ∷ 0xC0100000 ∷ 0x100000 ∷ 0x88 ∷ 0x90 ∷ 5 ∷ 4
+    ∷ 1 ∷ 0x80 ∷ 0xC01000A0 ∷ start ∷ size ∷ 0x10 ∷ 6 ∷ 4
+    ∷ headerMagic ∷ 0 ∷ 0xE4524FFE ∷ 0xF4F4F4F4 ∷ 0xF4F4F4F4 ∷ []
 
 -- `shelf 1` and a zero
 abbrev shelf : List ℕ
@@ -166,7 +187,7 @@ rows =
     -- a load that begins with the image, and one that would begin before it
     ∷ record { bytes = 56; place = 16; words = loading 0x100010 0 0 0x100020; hello = false; string = 0; line = 0; low = 0x9FC00; window = 0xC000 }
     yields loaded
-    (record { offset = 0; loadStart = 0x100000; loadEnd = 0x100038; extentEnd = 0x100038; entry = 0x100020; moduleStart = 0; moduleEnd = 0; blockStart = 0x100038; blockEnd = 0x1000C8 })
+    (record { segments = stretch 0 0x100000 0x100038 0x100038 ∷ []; entry = 0x100020; moduleStart = 0; moduleEnd = 0; blockStart = 0x100038; blockEnd = 0x1000C8 })
     (record { eax = 0x2BADB002; ebx = 0x100038; flags = 0x249; memLower = 639; memUpper = 7168; name = shelf })
     ∷ record { bytes = 56; place = 12; words = loading 0x100010 0 0 0x100020; hello = false; string = 0; line = 0; low = 0x9FC00; window = 0xC000 } yields refusal 10 0
     -- B1 with a load end, a bss end and an entry one too far
@@ -176,30 +197,40 @@ rows =
     -- B1 in windows that are just long enough for its module, and one byte short
     ∷ record { bytes = 40; place = 0; words = loading 0x100000 0 0x100030 0x100020; hello = true; string = 1; line = 0; low = 0x9FC00; window = 0x1005 }
     yields loaded
-    (record { offset = 0; loadStart = 0x100000; loadEnd = 0x100028; extentEnd = 0x100030; entry = 0x100020; moduleStart = 0x101000; moduleEnd = 0x101005; blockStart = 0x100030; blockEnd = 0x1000D2 })
+    (record { segments = stretch 0 0x100000 0x100028 0x100030 ∷ []; entry = 0x100020; moduleStart = 0x101000; moduleEnd = 0x101005; blockStart = 0x100030; blockEnd = 0x1000D2 })
     (record { eax = 0x2BADB002; ebx = 0x100030; flags = 0x249; memLower = 639; memUpper = 7168; name = shelf })
     ∷ record { bytes = 40; place = 0; words = loading 0x100000 0 0x100030 0x100020; hello = true; string = 1; line = 0; low = 0x9FC00; window = 0x1004 } yields refusal 16 0
     -- without its module, in windows that are just long enough for the information block, and one byte short
     ∷ record { bytes = 40; place = 0; words = loading 0x100000 0 0x100030 0x100020; hello = false; string = 0; line = 0; low = 0x9FC00; window = 0xC0 }
     yields loaded
-    (record { offset = 0; loadStart = 0x100000; loadEnd = 0x100028; extentEnd = 0x100030; entry = 0x100020; moduleStart = 0; moduleEnd = 0; blockStart = 0x100030; blockEnd = 0x1000C0 })
+    (record { segments = stretch 0 0x100000 0x100028 0x100030 ∷ []; entry = 0x100020; moduleStart = 0; moduleEnd = 0; blockStart = 0x100030; blockEnd = 0x1000C0 })
     (record { eax = 0x2BADB002; ebx = 0x100030; flags = 0x249; memLower = 639; memUpper = 7168; name = shelf })
     ∷ record { bytes = 40; place = 0; words = loading 0x100000 0 0x100030 0x100020; hello = false; string = 0; line = 0; low = 0x9FC00; window = 0xBF } yields refusal 17 0
     -- the same with 641 KiB of usable memory from 0 on, of which the kernel is told 640
     ∷ record { bytes = 40; place = 0; words = loading 0x100000 0 0x100030 0x100020; hello = false; string = 0; line = 0; low = 0xA0400; window = 0xC0 }
     yields loaded
-    (record { offset = 0; loadStart = 0x100000; loadEnd = 0x100028; extentEnd = 0x100030; entry = 0x100020; moduleStart = 0; moduleEnd = 0; blockStart = 0x100030; blockEnd = 0x1000C0 })
+    (record { segments = stretch 0 0x100000 0x100028 0x100030 ∷ []; entry = 0x100020; moduleStart = 0; moduleEnd = 0; blockStart = 0x100030; blockEnd = 0x1000C0 })
     (record { eax = 0x2BADB002; ebx = 0x100030; flags = 0x249; memLower = 640; memUpper = 7168; name = shelf })
     -- the longest command line, and one byte more
     ∷ record { bytes = 40; place = 0; words = loading 0x100000 0 0x100030 0x100020; hello = false; string = 0; line = 255; low = 0x9FC00; window = 0x1C0 }
     yields loaded
-    (record { offset = 0; loadStart = 0x100000; loadEnd = 0x100028; extentEnd = 0x100030; entry = 0x100020; moduleStart = 0; moduleEnd = 0; blockStart = 0x100030; blockEnd = 0x1001C0 })
+    (record { segments = stretch 0 0x100000 0x100028 0x100030 ∷ []; entry = 0x100020; moduleStart = 0; moduleEnd = 0; blockStart = 0x100030; blockEnd = 0x1001C0 })
     (record { eax = 0x2BADB002; ebx = 0x100030; flags = 0x24D; memLower = 639; memUpper = 7168; name = shelf })
     ∷ record { bytes = 40; place = 0; words = loading 0x100000 0 0x100030 0x100020; hello = false; string = 0; line = 256; low = 0x9FC00; window = 0xC000 } yields refusal 2 0
     -- B1 with the longest string, and one byte more
     ∷ record { bytes = 40; place = 0; words = loading 0x100000 0 0x100030 0x100020; hello = true; string = 127; line = 0; low = 0x9FC00; window = 0x1005 }
     yields loaded
-    (record { offset = 0; loadStart = 0x100000; loadEnd = 0x100028; extentEnd = 0x100030; entry = 0x100020; moduleStart = 0x101000; moduleEnd = 0x101005; blockStart = 0x100030; blockEnd = 0x100150 })
+    (record { segments = stretch 0 0x100000 0x100028 0x100030 ∷ []; entry = 0x100020; moduleStart = 0x101000; moduleEnd = 0x101005; blockStart = 0x100030; blockEnd = 0x100150 })
     (record { eax = 0x2BADB002; ebx = 0x100030; flags = 0x249; memLower = 639; memUpper = 7168; name = shelf })
     ∷ record { bytes = 40; place = 0; words = loading 0x100000 0 0x100030 0x100020; hello = true; string = 128; line = 0; low = 0x9FC00; window = 0xC000 } yields refusal 2 0
+    -- an ELF image of two segments, with the module between them and the information block behind
+    ∷ record { bytes = 136; place = 0; words = linked 0x00030002 0x100080 0x1000A0 4; hello = true; string = 1; line = 0; low = 0x9FC00; window = 0x152 }
+    yields loaded
+    (record { segments = stretch 0 0x100000 0x100088 0x100090 ∷ stretch 0x80 0x1000A0 0x1000A4 0x1000B0 ∷ []; entry = 0x100080; moduleStart = 0x100090; moduleEnd = 0x100095; blockStart = 0x1000B0; blockEnd = 0x100152 })
+    (record { eax = 0x2BADB002; ebx = 0x1000B0; flags = 0x249; memLower = 639; memUpper = 7168; name = shelf })
+    -- another type, file bytes past the image, segments that share one byte, and an entry in the zeros of the first
+    ∷ record { bytes = 136; place = 0; words = linked 0x00030003 0x100080 0x1000A0 4; hello = true; string = 1; line = 0; low = 0x9FC00; window = 0xC000 } yields refusal 18 0
+    ∷ record { bytes = 136; place = 0; words = linked 0x00030002 0x100080 0x1000A0 9; hello = true; string = 1; line = 0; low = 0x9FC00; window = 0xC000 } yields refusal 19 0
+    ∷ record { bytes = 136; place = 0; words = linked 0x00030002 0x100080 0x10008F 4; hello = true; string = 1; line = 0; low = 0x9FC00; window = 0xC000 } yields refusal 20 0
+    ∷ record { bytes = 136; place = 0; words = linked 0x00030002 0x100088 0x1000A0 4; hello = true; string = 1; line = 0; low = 0x9FC00; window = 0xC000 } yields refusal 14 0
     ∷ []

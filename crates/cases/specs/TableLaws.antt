@@ -10,10 +10,12 @@ use lib.Dec.{leb}
 use Rattle.laws.specs.Tests.{any, allFrom, run}
 use Rattle.laws.specs.Table.{listed}
 use Rattle.laws.specs.TestLaws.{and-left, and-right}
-use Rattle.laws.specs.Checks.{firstOf, passes}
+use Rattle.laws.specs.Passing.{passing}
+use Rattle.laws.specs.Checks.{onlyIf, firstOf, passes}
 use Rattle.buffer.specs.Patched.{patched}
 use Rattle.buffer.specs.Writes.{written}
 use Rattle.number.specs.Number.{number, numberBytes, wordBytes}
+use Rattle.address.specs.Span.{overlap}
 use Rattle.address.specs.Address.{page, isMultiple, roundUp, inside}
 use Rattle.edge.specs.Edge.{nearest, spanEdge, edgeUpTo}
 use Rattle.submission.specs.Scan.{hasZero, sameBytes}
@@ -24,7 +26,12 @@ use Rattle.command_line.specs.CommandLine.{operatorChecks, commandLine}
 use Rattle.command_line.specs.LineInForce.{lineInForce}
 use Rattle.header.specs.Header.{words, isHeader, headerFrom, header}
 use Rattle.image.specs.Load.{fieldsAt, loadLength}
-use Rattle.image.specs.Judged.{headerChecks, loadChecks, imageChecks, kernelFor, kernelOf}
+use Rattle.kernel.specs.Kernel.{kernelWith}
+use Rattle.kernel.specs.Checks.{entryIn, entryOutside, entryChecks, overlapNo, overlapsEarlier, extentsOverlap}
+use Rattle.elf.specs.Elf.{elfHeader, programHeaderAt}
+use Rattle.elf.specs.Segments.{isSegment, segmentsAmong, elfKernel}
+use Rattle.elf.specs.Checks.{rightKind, tableFits, wellFormed, fits, badHeader, badNo, elfChecks}
+use Rattle.image.specs.Judged.{unknownKind, headerChecks, loadChecks, fieldChecks, kindChecks, imageChecks, kernelFor, fieldsKernel, kernelOf}
 use Rattle.memory_map.specs.Pairs.{nextOffset, pairOffset}
 use Rattle.memory_map.specs.Map.{begins, pairCount, tooSmall, pastEnd, badMap, mapChecks, pairAt, firstPairs}
 use Rattle.memory_map.specs.Parse.{parsedMap}
@@ -71,7 +78,7 @@ unfolding rows
 all-served = refl
 
 computed-rows : map (λ (r : Row). modelOutcome (r .input)) rows ≡ map (λ (r : Row). r .outcome) rows
-unfolding rows columns modelIn decisionWith modelDecision contentsWith writesWith memoryWith modelMemory segmentWrite moduleWrite lentChecks extentOpen kernelOpen kernelChecks roomChecks planOf noPlan decidedBy extentsOf loadItem itemsOf moduleSpans structureWords textSize textsSize blockLength structureFor entryWords entries partsOf blockOf stringLengths bootModules walk computed computedFrom runEnd computedLower computedUpper withSpan takenBy isTaken isFree takenEdge freeEdge windowChecks openEdge isOpen mapEdge covers usableBy barredBy isUsable nextOffset pairOffset begins pairCount tooSmall pastEnd badMap mapChecks pairAt firstPairs parsedMap headerChecks loadChecks imageChecks kernelFor kernelOf fieldsAt loadLength words isHeader headerFrom header operatorChecks lineInForce commandLine isSubmission inLimits stringHolds rulesHold submissionChecks dataStart layoutOf hasZero sameBytes nearest spanEdge edgeUpTo isMultiple roundUp inside patched written number numberBytes wordBytes firstOf passes listed any allFrom run
+unfolding rows columns modelIn decisionWith modelDecision contentsWith writesWith memoryWith modelMemory segmentWrite moduleWrite lentChecks extentOpen kernelOpen kernelChecks roomChecks planOf noPlan decidedBy extentsOf loadItem itemsOf moduleSpans structureWords textSize textsSize blockLength structureFor entryWords entries partsOf blockOf stringLengths bootModules walk computed computedFrom runEnd computedLower computedUpper withSpan takenBy isTaken isFree takenEdge freeEdge windowChecks openEdge isOpen mapEdge covers usableBy barredBy isUsable nextOffset pairOffset begins pairCount tooSmall pastEnd badMap mapChecks pairAt firstPairs parsedMap unknownKind headerChecks loadChecks fieldChecks kindChecks entryChecks imageChecks kernelFor fieldsKernel kernelOf elfHeader programHeaderAt isSegment segmentsAmong elfKernel rightKind tableFits wellFormed fits badHeader badNo elfChecks kernelWith entryIn entryOutside overlapNo overlapsEarlier extentsOverlap overlap passing onlyIf fieldsAt loadLength words isHeader headerFrom header operatorChecks lineInForce commandLine isSubmission inLimits stringHolds rulesHold submissionChecks dataStart layoutOf hasZero sameBytes nearest spanEdge edgeUpTo isMultiple roundUp inside patched written number numberBytes wordBytes firstOf passes listed any allFrom run
 computed-rows = refl
 
 pub rows-hold : map (λ (r : Row). outcomeOf (r .input)) rows ≡ map (λ (r : Row). r .outcome) rows

@@ -16,8 +16,8 @@ use Rattle.answer.specs.Answer.{isLoad}
 use Rattle.answer.specs.declared.Answer.{Answer}
 use Rattle.answer.specs.declared.Answer.the-variants.{Load, KernelNotOpen, NoRoomForModule, NoRoomForBlock}
 use Rattle.submission.specs.declared.Layout.{Layout}
-use Rattle.image.specs.declared.Kernel.{Kernel}
-use Rattle.image.specs.Kernel.{extentNo}
+use Rattle.kernel.specs.declared.Kernel.{Kernel}
+use Rattle.kernel.specs.Kernel.{extentNo}
 use Rattle.board.specs.declared.Board.{Board}
 use Rattle.board.specs.Open.{isOpen}
 use Rattle.placement.specs.declared.Spans.{Spans}
@@ -35,7 +35,7 @@ extentOpen b k i = allFrom (isOpen b) (extentNo k i .start .0) (extentNo k i .en
 unfoldable pub kernelOpen : Board → Kernel → Bool
 kernelOpen b k = allFrom (extentOpen b k) 0 (k .count)
 
--- 15: an address of the kernel's extent not open
+-- 15: an address of the kernel's extents not open
 unfoldable pub kernelChecks : Board → Kernel → List (Check Answer)
 kernelChecks b k = (not (kernelOpen b k) gives KernelNotOpen) ∷ []
 

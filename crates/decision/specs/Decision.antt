@@ -1,4 +1,4 @@
--- The decision on what is lent: the order of checks, 1 to 17, and the plan.    rules: ANSWERS, PLAN
+-- The decision on what is lent: the order of checks, and the plan.             rules: ANSWERS, PLAN
 --     lentChecks    the checks on what is lent
 --     checks        all checks in their order
 --     answerOf      the answer
@@ -25,7 +25,7 @@ use Rattle.decision.specs.Decided.{placedBy, memoryChecks, memoryPlan, d
 abbrev pub placedIn : Lent → Placed
 placedIn x = placedBy (boardIn x) (kernelIn x) (layoutIn x) (blockLengthIn x)
 
--- 1 and 2, 3, 4, 5, 6 to 14
+-- 1 and 2, 3, 4, 5, then those on the image: 6 to 8, 9 to 13 or 18 to 20, and 14
 unfoldable pub lentChecks : Lent → List (Check Answer)
 lentChecks x =
     submissionChecks (x .submission)

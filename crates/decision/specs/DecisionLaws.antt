@@ -1,10 +1,10 @@
 -- What the checks before 15 show, and how the decision goes on from them.
---     lent-refuses                                           checks 1 to 14 refuse
---     answer-is                                              the first refusal of the stages is the answer of checks 1 to 14
+--     lent-refuses                                           the checks before 15 refuse
+--     answer-is                                              the first refusal of the stages is the answer of the checks before 15
 --     LentPassed, lent-passed                                what is known where none of them applies
 --     prepared, block-small                                  so that the items can be placed
 --     verdict-is, Stages, stages-known                       what the stages read
---     decided-refused, decided-on                            a refusal of checks 1 to 14, and the decision on memory
+--     decided-refused, decided-on                            a refusal of the checks before 15, and the decision on memory
 --     board-is, block-length-is, prepared-is, decision-is    the same as the calls hand it over
 -- Assumes nothing.
 use mathlib.Core.Path.{_≡_, refl, sym, ap, _∙_}
@@ -17,7 +17,7 @@ use Rattle.laws.specs.Checks.{firstOf, passes}
 use Rattle.address.specs.Address.{top}
 use Rattle.address.specs.declared.Span.{Span}
 use Rattle.answer.specs.Answer.{isLoad, orElse}
-use Rattle.answer.specs.ChainLaws.{refuses, chain-append, or-else-same, or-else-load, passes-is, load-is}
+use Rattle.answer.specs.ChainLaws.{refuses, refuses-append, chain-append, or-else-same, or-else-load, passes-is, load-is}
 use Rattle.answer.specs.declared.Answer.{Answer}
 use Rattle.answer.specs.declared.Answer.the-variants.{Load}
 use Rattle.submission.specs.declared.Layout.{Layout}
@@ -32,9 +32,9 @@ use Rattle.submission.specs.RuleLaws.{good-submission, submission-refuses, pars
 use Rattle.submission.specs.GoodSubmission.{GoodSubmission}
 use Rattle.command_line.specs.CommandLine.{operatorChecks}
 use Rattle.command_line.specs.CommandLineLaws.{operator-refuses, line-length}
-use Rattle.image.specs.declared.Kernel.{Kernel}
-use Rattle.image.specs.declared.Judged.{Judged}
-use Rattle.image.specs.Judged.{headerChecks, loadChecks, imageChecks}
+use Rattle.kernel.specs.declared.Kernel.{Kernel}
+use Rattle.kernel.specs.declared.Judged.{Judged}
+use Rattle.image.specs.Judged.{imageChecks}
 use Rattle.image.specs.Judge.{judged}
 use Rattle.image.specs.JudgedLaws.{image-refuses, judged-answer, judged-load, good-kernel}
 use Rattle.memory_map.specs.declared.MemoryMap.{MemoryMap}
@@ -57,8 +57,15 @@ use Rattle.decision.specs.PlacedLaws.{Prepared}
 
 module _ (x : Lent) where
   pub lent-refuses : refuses (lentChecks x) ≡ true
-  unfolding refuses lentChecks submissionChecks operatorChecks windowChecks mapChecks headerChecks loadChecks imageChecks
-  lent-refuses = refl
+  unfolding lentChecks
+  lent-refuses =
+      refuses-append _ _
+      (refuses-append _ _
+      (refuses-append _ _
+      (refuses-append _ _ (submission-refuses (x .submission)) (operator-refuses (x .operator)))
+      (window-refuses (x .first) (x .size)))
+      (map-refuses (x .map)))
+      (image-refuses (imageIn x))
 
   lent-right :
       lentChecks x
@@ -66,7 +73,7 @@ module _ (x : Lent) where
   unfolding lentChecks
   lent-right = simp append-assoc
 
-  -- the answers of the stages, one after the other, make the answer of checks 1 to 14
+  -- the answers of the stages, one after the other, make the answer of the checks before 15
   lent-chain :
       firstOf (lentChecks x) Load
       ≡ orElse (firstOf (submissionChecks (x .submission)) Load)
@@ -97,7 +104,7 @@ module _ (x : Lent) where
       (λ h. rw (layout-read h, judged-answer (imageIn x)) refl)
       ∙ sym lent-chain
 
--- what is known where none of checks 1 to 14 applies
+-- what is known where none of the checks before 15 applies
 pub record LentPassed (x : Lent) : Type 0 where
   pub rules : passes (submissionChecks (x .submission)) ≡ true
   pub submission : GoodSubmission (x .submission)
@@ -146,7 +153,7 @@ module _ (x : Lent) (p : LentPassed x) where
   prepared =
       record {
         window = p .window;
-        segments = omega (arith, good-kernel (imageIn x) (p .image) .one);
+        segments = good-kernel (imageIn x) (p .image) .few;
         modules = count-small;
         bytes = λ i l.
             let h : i < moduleCount (x .submission) = omega (arith, layout-count (x .submission)) in

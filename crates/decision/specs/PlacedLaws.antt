@@ -14,8 +14,8 @@ use Rattle.address.specs.Span.{noSpan, spanNo}
 use Rattle.submission.specs.declared.Layout.{Layout}
 use Rattle.submission.specs.Layout.{moduleNo}
 use Rattle.submission.specs.Format.{maxModules}
-use Rattle.image.specs.declared.Kernel.{Kernel}
-use Rattle.image.specs.Kernel.{maxSegments, extentNo}
+use Rattle.kernel.specs.declared.Kernel.{Kernel}
+use Rattle.kernel.specs.Kernel.{maxSegments, extentNo}
 use Rattle.board.specs.declared.Board.{Board}
 use Rattle.board.specs.Open.{isOpen}
 use Rattle.board.specs.OpenLaws.{open-below}

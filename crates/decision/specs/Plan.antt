@@ -4,7 +4,7 @@
 use lib.ListN.{replicate}
 use Rattle.address.specs.Span.{noSpan}
 use Rattle.submission.specs.Format.{maxModules}
-use Rattle.image.specs.Kernel.{noKernel}
+use Rattle.kernel.specs.Kernel.{noKernel}
 use Rattle.decision.specs.declared.Plan.{Plan}
 
 unfoldable pub noPlan : Plan

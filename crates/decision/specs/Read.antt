@@ -10,7 +10,7 @@ use lib.ListN.{length}
 use Rattle.submission.specs.declared.Layout.{Layout}
 use Rattle.submission.specs.Layout.{layoutOf, bytesOf}
 use Rattle.command_line.specs.CommandLine.{commandLine}
-use Rattle.image.specs.declared.Kernel.{Kernel}
+use Rattle.kernel.specs.declared.Kernel.{Kernel}
 use Rattle.image.specs.Judged.{kernelOf}
 use Rattle.memory_map.specs.Map.{mapOf}
 use Rattle.board.specs.declared.Board.{Board}

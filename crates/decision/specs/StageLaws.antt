@@ -14,7 +14,7 @@ use Rattle.answer.specs.ChainLaws.{refuses, check-passed, load-is}
 use Rattle.answer.specs.declared.Answer.{Answer}
 use Rattle.answer.specs.declared.Answer.the-variants.{Load, KernelNotOpen, NoRoomForModule, NoRoomForBlock}
 use Rattle.submission.specs.declared.Layout.{Layout}
-use Rattle.image.specs.declared.Kernel.{Kernel}
+use Rattle.kernel.specs.declared.Kernel.{Kernel}
 use Rattle.board.specs.declared.Board.{Board}
 use Rattle.board.specs.Open.{isOpen}
 use Rattle.placement.specs.declared.Items.{Items}

@@ -2,7 +2,7 @@
 use address::Span;
 use answer::Answer;
 use board::Board;
-use image::Kernel;
+use kernel::Kernel;
 ghost use mathlib.Core.Path.{_≡_};
 ghost use Rattle.answer.specs.Answer.{orElse};
 ghost use Rattle.decision.specs.Lent.{lent};
@@ -56,8 +56,8 @@ pub fn decide<'a>(
     place::decide_memory(Board { map, window }, kernel, layout, length as u64)
 }
 
-// The first of the answers of checks 1 to 14 that refuses: on the submission, the operator's line, the window, the memory map
-// and the image.
+// The first of the answers of the checks before 15 that refuses: on the submission, the operator's line, the window, the
+// memory map and the image.
 fn first_refusal(
     submission: Answer,
     operator: Answer,

@@ -1,11 +1,10 @@
 // The checks on memory, 15 to 17, and the plan.
 use crate::Decision;
 use crate::Plan;
-use address::PhysAddr;
 use address::Span;
 use answer::Answer;
 use board::Board;
-use image::Kernel;
+use kernel::Kernel;
 use placement::Spans;
 use submission::Layout;
 ghost use mathlib.Core.Path.{_≡_};
@@ -14,7 +13,7 @@ ghost use Rattle.laws.specs.Checks.{firstOf};
 ghost use Rattle.submission.specs.Format.{maxModules};
 ghost use Rattle.address.specs.Span.{spanNo};
 ghost use Rattle.placement.specs.Free.{maxSpans};
-ghost use Rattle.image.specs.Kernel.{maxSegments};
+ghost use Rattle.kernel.specs.Kernel.{maxSegments};
 ghost use Rattle.decision.specs.PlacedLaws.{Prepared};
 ghost use Rattle.decision.specs.Decided.{kernelOpen, roomChecks, planOf, memoryDecision};
 ghost use Rattle.decision.specs.Plan.{noPlan};
@@ -29,7 +28,7 @@ fn kernel_open(board: Board, kernel: Kernel) -> bool
 {
     let mut i = 0;
     while i < kernel.count {
-        if !board::all_open(board, items::extent(kernel, i)) {
+        if !board::all_open(board, kernel::extent(kernel, i)) {
             return false;
         }
         i += 1;
@@ -74,7 +73,7 @@ pub(crate) fn refuse(a: Answer) -> Decision
     Decision {
         answer: a,
         plan: Plan {
-            kernel: image::no_kernel(),
+            kernel: kernel::no_kernel(),
             modules: [Span::none(); submission::MAX_MODULES],
             block: Span::none(),
             eax: 0,

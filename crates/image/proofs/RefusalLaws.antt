@@ -1,29 +1,38 @@
 -- Which check refuses an image whose header was found, in the words of the code's tests.
---     no-header, unknown-request, no-addresses, cut-off, before-image    checks 6 to 10
---     load-left, offset-below    the checks on the load are left
---     length-fits                how long a load is at most
+--     no-header, unknown-request, unknown-kind    checks 6 to 8
+--     kind-judged                                 the checks on the kind and on the entry are left
+--     by-elf, by-address                          the kind is chosen by the flags
+--     cut-off, before-image, load-left            checks 9 and 10, and those on the load
+--     length-fits, one-few                        how long a load is at most, and that one segment is not too many
 -- Assumes nothing.
-use mathlib.Core.Path.{_≡_, refl, sym}
+use mathlib.Core.Path.{_≡_, refl, sym, _∙_}
 use mathlib.Core.Bool.{Bool, true, false, cond}
-use mathlib.Core.List.{List}
+use mathlib.Core.List.{List, _++_}
 use Prim.Native.Nat.{ℕ, _-_, _^_, _≤_, _<_}
 use native.Mathlib.Omega.{arith}
 use lib.Dec.{eqb}
 use lib.ListN.{length}
 use Rattle.laws.specs.Checks.{firstOf}
-use Rattle.laws.specs.CheckLaws.{chain}
+use Rattle.laws.specs.CheckLaws.{chain, not-to-true, not-to-false}
 use Rattle.address.specs.declared.ImageOffset.{ImageOffset}
-use Rattle.answer.specs.Answer.{isLoad}
+use Rattle.answer.specs.Answer.{isLoad, orElse}
+use Rattle.answer.specs.ChainLaws.{chain-append, or-else-first, or-else-second}
 use Rattle.answer.specs.declared.Answer.{Answer}
 use Rattle.answer.specs.declared.Answer.the-variants.{Load, NoHeader, UnknownRequest, NoAddressFields, HeaderCutOff, LoadBeforeImage}
 use Rattle.header.specs.declared.Search.{Search}
 use Rattle.header.specs.declared.Search.the-variants.{At, Nothing}
 use Rattle.header.specs.Header.{header}
+use Rattle.kernel.specs.Kernel.{maxSegments, kernelWith}
+use Rattle.kernel.specs.Checks.{entryChecks}
+use Rattle.kernel.specs.Judge.{refused, withKernel, withEntry}
+use Rattle.elf.specs.Segments.{elfKernel}
+use Rattle.elf.specs.Checks.{elfChecks}
 use Rattle.image.specs.declared.load.AddressFields.{AddressFields}
 use Rattle.image.specs.Load.{flagsAt, fieldsAt, onPages, loadOffset, loadLength}
 use Rattle.image.specs.Narrow.{Narrow}
-use Rattle.image.specs.Judged.{unknownRequest, noAddresses, cutOff, beforeImage, headerChecks, loadChecks, imageChecks, kernelFor, kernelOf}
-use Rattle.image.specs.Judge.{refused, withKernel, judged}
+use Rattle.image.specs.Judged.{unknownRequest, noAddresses, unknownKind, cutOff, beforeImage, headerFlags, isAddressed, headerChecks, loadChecks, fieldChecks, kindChecks, imageChecks, kernelFor, fieldsKernel, kernelOf}
+use Rattle.image.specs.Judge.{judged}
+use Rattle.image.specs.JudgedLaws.{header-refuses, front-refuses, kind-fields, kind-elf, kernel-fields, kernel-elf}
 
 -- what a choice between nothing and an offset was made by
 chosen-none : (t : Bool) (x : Search) (y : ImageOffset) → x ≡ cond t Nothing (At y) → x ≡ Nothing → t ≡ true
@@ -38,14 +47,22 @@ chosen-one false x y z e f = (refl, cc)
 pub offset-below : (h : AddressFields) (at o : ImageOffset) (r : Search) → r ≡ cond (beforeImage h (at .0)) Nothing (At (record { 0 = loadOffset h (at .0) })) → r ≡ At o → o .0 ≤ at .0
 offset-below h at o r found one = omega (arith, chosen-one (beforeImage h (at .0)) r (record { 0 = loadOffset h (at .0) }) o found one)
 
--- a refused by the first check that applies
-refusal-is : (a : Answer) (image : List ℕ) → isLoad a ≡ false → a ≡ firstOf (imageChecks image) Load → refused a ≡ judged image
+-- the answers of the checks, one after the other
+image-chain : (image : List ℕ) → firstOf (imageChecks image) Load ≡ orElse (orElse (firstOf (headerChecks image) Load) (firstOf (kindChecks image) Load)) (firstOf (entryChecks (kernelOf image)) Load)
+unfolding imageChecks
+image-chain image = rw (chain-append (headerChecks image ++ kindChecks image) (entryChecks (kernelOf image)) (front-refuses image), chain-append (headerChecks image) (kindChecks image) (header-refuses image)) refl
+
+-- refused by the first check on the header that applies
+header-refused : (a : Answer) (image : List ℕ) → isLoad a ≡ false → a ≡ firstOf (headerChecks image) Load → refused a ≡ judged image
 unfolding withKernel judged
-refusal-is a image e f = rw (← f, e)
+header-refused a image e f =
+    let r : firstOf (imageChecks image) Load ≡ a =
+    image-chain image ∙ rw (← f, or-else-first a (firstOf (kindChecks image) Load) e) (or-else-first a (firstOf (entryChecks (kernelOf image)) Load) e) in
+    rw (r, e)
 
 pub no-header : (image : List ℕ) → header image ≡ Nothing → refused NoHeader ≡ judged image
-unfolding imageChecks headerChecks
-no-header image e = refusal-is NoHeader image refl (rw e (search chain depth 20))
+unfolding headerChecks
+no-header image e = header-refused NoHeader image refl (rw e (search chain depth 20))
 
 -- a header was found, and its flags were read
 pub record FlagsFound (image : List ℕ) (at : ImageOffset) (flags : ℕ) : Type 0 where
@@ -54,40 +71,71 @@ pub record FlagsFound (image : List ℕ) (at : ImageOffset) (flags : ℕ) : Type
 
 module _ {image : List ℕ} {at : ImageOffset} {flags : ℕ} (r : FlagsFound image at flags) where
   pub unknown-request : unknownRequest flags ≡ true → refused UnknownRequest ≡ judged image
-  unfolding imageChecks headerChecks
-  unknown-request t = refusal-is UnknownRequest image refl (rw (r .found, ← r .read) (search chain depth 20))
+  unfolding headerChecks
+  unknown-request t = header-refused UnknownRequest image refl (rw (r .found, ← r .read) (search chain depth 20))
 
-  pub no-addresses : unknownRequest flags ≡ false → noAddresses flags ≡ true → refused NoAddressFields ≡ judged image
-  unfolding imageChecks headerChecks
-  no-addresses u t = refusal-is NoAddressFields image refl (rw (r .found, ← r .read) (search chain depth 20))
+  pub unknown-kind : unknownRequest flags ≡ false → unknownKind image flags ≡ true → refused NoAddressFields ≡ judged image
+  unfolding headerChecks
+  unknown-kind u t = header-refused NoAddressFields image refl (rw (r .found, ← r .read) (search chain depth 20))
 
-  pub cut-off : unknownRequest flags ≡ false → noAddresses flags ≡ false → cutOff (at .0) (length image) ≡ true → refused HeaderCutOff ≡ judged image
-  unfolding imageChecks headerChecks
-  cut-off u v t = refusal-is HeaderCutOff image refl (rw (r .found, ← r .read) (search chain depth 20))
+  header-passed : unknownRequest flags ≡ false → unknownKind image flags ≡ false → Load ≡ firstOf (headerChecks image) Load
+  unfolding headerChecks
+  header-passed u t = rw (r .found, ← r .read) (search chain depth 20)
 
--- its address fields h stand in the image and were read
-pub record WholeHeader (image : List ℕ) (at : ImageOffset) (flags : ℕ) (h : AddressFields) : Type 0 where
-  pub header : FlagsFound image at flags
-  pub known : unknownRequest flags ≡ false
-  pub addresses : noAddresses flags ≡ false
+  -- the checks on the kind and on the entry are left
+  pub kind-judged : unknownRequest flags ≡ false → unknownKind image flags ≡ false → withEntry (firstOf (kindChecks image) Load) (kernelOf image) ≡ judged image
+  unfolding judged
+  kind-judged u t =
+      let h = header-passed u t in
+      let q : firstOf (imageChecks image) Load ≡ orElse (firstOf (kindChecks image) Load) (firstOf (entryChecks (kernelOf image)) Load) =
+      image-chain image ∙ rw (← h, or-else-second Load (firstOf (kindChecks image) Load) refl) refl in
+      rw q
+
+  -- the flags that were read choose the kind
+  pub flags-are : headerFlags image ≡ flags
+  flags-are = rw (r .found, r .read)
+
+  pub by-elf : noAddresses flags ≡ true → withEntry (firstOf (elfChecks image (elfKernel image (at .0) (onPages flags))) Load) (elfKernel image (at .0) (onPages flags)) ≡ withEntry (firstOf (kindChecks image) Load) (kernelOf image)
+  by-elf t =
+      let a : isAddressed image ≡ false = not-to-false (noAddresses (headerFlags image)) (rw flags-are t) in
+      rw (kind-elf image a, kernel-elf image a, flags-are, r .found)
+
+  pub by-address : noAddresses flags ≡ false → withEntry (firstOf (fieldChecks image) Load) (fieldsKernel image) ≡ withEntry (firstOf (kindChecks image) Load) (kernelOf image)
+  by-address t =
+      let a : isAddressed image ≡ true = not-to-true (noAddresses (headerFlags image)) (rw flags-are t) in
+      rw (kind-fields image a, kernel-fields image a)
+
+-- refused by the first check on address fields that applies
+field-refused : (a : Answer) (image : List ℕ) → isLoad a ≡ false → a ≡ firstOf (fieldChecks image) Load → refused a ≡ withEntry (firstOf (fieldChecks image) Load) (fieldsKernel image)
+unfolding withKernel
+field-refused a image e f = rw (← f, or-else-first a (firstOf (entryChecks (fieldsKernel image)) Load) e, e)
+
+pub cut-off : (image : List ℕ) (at : ImageOffset) → header image ≡ At at → cutOff (at .0) (length image) ≡ true → refused HeaderCutOff ≡ withEntry (firstOf (fieldChecks image) Load) (fieldsKernel image)
+unfolding fieldChecks
+cut-off image at found t = field-refused HeaderCutOff image refl (rw found (search chain depth 20))
+
+-- the address fields h of the header found stand in the image and were read
+pub record WholeHeader (image : List ℕ) (at : ImageOffset) (h : AddressFields) : Type 0 where
+  pub found : header image ≡ At at
   pub whole : cutOff (at .0) (length image) ≡ false
   pub read : h ≡ fieldsAt image (at .0)
 
-module _ {image : List ℕ} {at : ImageOffset} {flags : ℕ} {h : AddressFields} (w : WholeHeader image at flags h) (r : Search) (offset : r ≡ cond (beforeImage h (at .0)) Nothing (At (record { 0 = loadOffset h (at .0) }))) where
-  pub before-image : r ≡ Nothing → refused LoadBeforeImage ≡ judged image
-  unfolding imageChecks headerChecks
+module _ {image : List ℕ} {at : ImageOffset} {h : AddressFields} (w : WholeHeader image at h) (r : Search) (offset : r ≡ cond (beforeImage h (at .0)) Nothing (At (record { 0 = loadOffset h (at .0) }))) where
+  pub before-image : r ≡ Nothing → refused LoadBeforeImage ≡ withEntry (firstOf (fieldChecks image) Load) (fieldsKernel image)
+  unfolding fieldChecks
   before-image none =
       let t : beforeImage h (at .0) ≡ true = chosen-none _ r _ offset none in
-      refusal-is LoadBeforeImage image refl (rw (w .header .found, ← w .header .read, ← w .read) (search chain depth 20))
+      field-refused LoadBeforeImage image refl (rw (w .found, ← w .read) (search chain depth 20))
 
-  pub load-left : (o : ImageOffset) → r ≡ At o → withKernel (firstOf (loadChecks h (o .0) (loadLength h (o .0) (length image)) (length image)) Load) (kernelFor h (onPages flags) (at .0) (o .0) (loadLength h (o .0) (length image))) ≡ judged image
-  unfolding judged imageChecks headerChecks kernelOf
-  load-left o one =
+  pub load-left : (o : ImageOffset) (pages : Bool) → r ≡ At o → pages ≡ onPages (headerFlags image)
+      → withEntry (firstOf (loadChecks h (o .0) (loadLength h (o .0) (length image)) (length image)) Load) (kernelFor h pages (at .0) (o .0) (loadLength h (o .0) (length image))) ≡ withEntry (firstOf (fieldChecks image) Load) (fieldsKernel image)
+  unfolding fieldChecks fieldsKernel
+  load-left o pages one p =
       let t : beforeImage h (at .0) ≡ false = chosen-one _ r _ o offset one .0 in
       let q : o .0 ≡ loadOffset h (at .0) = chosen-one (beforeImage h (at .0)) r (record { 0 = loadOffset h (at .0) }) o offset one .1 in
-      let go : firstOf (imageChecks image) Load ≡ firstOf (loadChecks h (o .0) (loadLength h (o .0) (length image)) (length image)) Load =
-      sym (rw (w .header .found, ← w .header .read, ← w .read, ← q) (search chain depth 20)) in
-      rw (go, w .header .found, ← w .header .read, ← w .read, ← q)
+      let go : firstOf (fieldChecks image) Load ≡ firstOf (loadChecks h (o .0) (loadLength h (o .0) (length image)) (length image)) Load =
+      sym (rw (w .found, ← w .read, ← q) (search chain depth 20)) in
+      rw (go, p, w .found, ← w .read, ← q)
 
 module _ (h : AddressFields) (offset n : ℕ) (narrow : Narrow h) (fits : n < 2 ^ 63) where
   by-end : (t : Bool) → eqb (h .«load_end_addr» .0) 0 ≡ t → loadLength h offset n < 2 ^ 63
@@ -97,3 +145,8 @@ module _ (h : AddressFields) (offset n : ℕ) (narrow : Narrow h) (fits : n < 2 
 
   pub length-fits : loadLength h offset n < 2 ^ 63
   length-fits = by-end (eqb (h .«load_end_addr» .0) 0) refl
+
+-- one segment is no more than there may be
+pub one-few : (h : AddressFields) (pages : Bool) (o offset len : ℕ) → kernelFor h pages o offset len .count ≤ maxSegments
+unfolding kernelFor kernelWith
+one-few h pages o offset len = omega arith

@@ -1,29 +1,35 @@
--- The answer for an image, and its kernel.                           rules: ANSWERS (6 to 14), LOAD
+-- The answer for an image, and its kernel.                                rules: ANSWERS (6 to 14), KERNEL
 --     noHeader, offsetOf    what the header search found: 6
---     unknownRequest, noAddresses, cutOff, beforeImage, nothingLeft, pastImage, bssBelow, entryOutside
---                                            the conditions of 7 to 14
+--     unknownRequest, noAddresses, unknownKind, cutOff, beforeImage, nothingLeft, pastImage, bssBelow
+--                                            the conditions of 7 to 13
 --     headerOffset, headerFlags, headerFields, firstLoaded, countLoaded
 --                                            what an image's header says
---     headerChecks, loadChecks           the checks on the header, 6 to 10, and on the load, 11 to 14
---     imageChecks                        both, in order
---     segmentFor, kernelFor, kernelOf    the kernel that an image asks for
+--     segmentFor, kernelFor, fieldsKernel    the kernel of an image with address fields
+--     isAddressed, kernelOf                  the kernel that an image asks for, by either kind
+--     headerChecks, loadChecks, fieldChecks, kindChecks
+--                                            the checks on the header, and on address fields or ELF
+--     imageChecks                            all of them, in order
 -- Assumes nothing.
-use mathlib.Core.Bool.{Bool, true, false, not, _&&_, _||_}
+use mathlib.Core.Bool.{Bool, true, false, cond, not, _&&_, _||_}
 use mathlib.Core.List.{List, [], _∷_, _++_}
 use Prim.Native.Nat.{ℕ, _+_, _-_, _/_, _%_, _^_}
 use lib.Dec.{eqb, leb, ltb}
-use lib.ListN.{length, replicate}
-use Rattle.laws.specs.Checks.{Check, _gives_}
+use lib.ListN.{length}
+use Rattle.laws.specs.Checks.{Check, onlyIf, _gives_}
 use Rattle.answer.specs.declared.Answer.{Answer}
-use Rattle.answer.specs.declared.Answer.the-variants.{NoHeader, UnknownRequest, NoAddressFields, HeaderCutOff, LoadBeforeImage, NothingToLoad, LoadPastImage, BssBelowLoadEnd, EntryOutsideLoad}
+use Rattle.answer.specs.declared.Answer.the-variants.{NoHeader, UnknownRequest, NoAddressFields, HeaderCutOff, LoadBeforeImage, NothingToLoad, LoadPastImage, BssBelowLoadEnd}
 use Rattle.header.specs.declared.Search.{Search}
 use Rattle.header.specs.declared.Search.the-variants.{At, Nothing}
 use Rattle.header.specs.Header.{searchLimit, header}
+use Rattle.kernel.specs.declared.Segment.{Segment}
+use Rattle.kernel.specs.declared.Kernel.{Kernel}
+use Rattle.kernel.specs.Kernel.{kernelWith}
+use Rattle.kernel.specs.Checks.{entryChecks}
+use Rattle.elf.specs.Elf.{isElf}
+use Rattle.elf.specs.Segments.{elfKernel}
+use Rattle.elf.specs.Checks.{elfChecks}
 use Rattle.image.specs.declared.load.AddressFields.{AddressFields}
-use Rattle.image.specs.declared.Segment.{Segment}
-use Rattle.image.specs.declared.Kernel.{Kernel}
 use Rattle.image.specs.Load.{flagsAt, fieldsAt, onPages, fullHeader, loadOffset, loadLength, loadEnd, extentEnd}
-use Rattle.image.specs.Kernel.{maxSegments, noSegment}
 
 -- 6: no header
 abbrev pub noHeader : Search → Bool
@@ -39,9 +45,13 @@ offsetOf (At o) = o .0
 abbrev pub unknownRequest : ℕ → Bool
 unknownRequest flags = not (eqb (flags / 2 ^ 2 % 2 ^ 14) 0)
 
--- 8: bit 16 clear
+-- bit 16 clear
 abbrev pub noAddresses : ℕ → Bool
 noAddresses flags = eqb (flags / 2 ^ 16 % 2) 0
+
+-- 8: bit 16 clear, and no ELF mark
+unfoldable pub unknownKind : List ℕ → ℕ → Bool
+unknownKind image flags = noAddresses flags && not (isElf image)
 
 -- 9: header offset + 32 beyond 8,192 or beyond the image
 abbrev pub cutOff : ℕ → ℕ → Bool
@@ -63,10 +73,6 @@ pastImage h offset len n = not (eqb (h .«load_end_addr» .0) 0) && ltb (h .«lo
 abbrev pub bssBelow : AddressFields → ℕ → Bool
 bssBelow h e = not (eqb (h .«bss_end_addr» .0) 0) && ltb (h .«bss_end_addr» .0) e
 
--- 14: entry_addr below load_addr or not below the load end e
-abbrev pub entryOutside : AddressFields → ℕ → Bool
-entryOutside h e = ltb (h .«entry_addr» .0) (h .«load_addr» .0) || leb e (h .«entry_addr» .0)
-
 -- of an image: where its header stands, what that says, and which of the image's bytes are loaded
 abbrev pub headerOffset : List ℕ → ℕ
 headerOffset image = offsetOf (header image)
@@ -83,29 +89,6 @@ firstLoaded image = loadOffset (headerFields image) (headerOffset image)
 abbrev pub countLoaded : List ℕ → ℕ
 countLoaded image = loadLength (headerFields image) (firstLoaded image) (length image)
 
--- the checks on the header
-unfoldable pub headerChecks : List ℕ → List (Check Answer)
-headerChecks image =
-    noHeader (header image) gives NoHeader
-    ∷ unknownRequest (headerFlags image) gives UnknownRequest
-    ∷ noAddresses (headerFlags image) gives NoAddressFields
-    ∷ cutOff (headerOffset image) (length image) gives HeaderCutOff
-    ∷ beforeImage (headerFields image) (headerOffset image) gives LoadBeforeImage
-    ∷ []
-
--- the checks on the load of `len` bytes from `offset` on, of an image of n bytes
-unfoldable pub loadChecks : AddressFields → ℕ → ℕ → ℕ → List (Check Answer)
-loadChecks h offset len n =
-    nothingLeft h offset n gives NothingToLoad
-    ∷ pastImage h offset len n gives LoadPastImage
-    ∷ bssBelow h (loadEnd h len) gives BssBelowLoadEnd
-    ∷ entryOutside h (loadEnd h len) gives EntryOutsideLoad
-    ∷ []
-
--- all of them, in order
-unfoldable pub imageChecks : List ℕ → List (Check Answer)
-imageChecks image = headerChecks image ++ loadChecks (headerFields image) (firstLoaded image) (countLoaded image) (length image)
-
 -- the segment of `len` bytes from `offset` on: from load_addr to the load end, and the bss behind it
 abbrev pub segmentFor : AddressFields → ℕ → ℕ → Segment
 segmentFor h offset len =
@@ -113,9 +96,48 @@ segmentFor h offset len =
 
 -- the kernel of a header at o: one segment
 unfoldable pub kernelFor : AddressFields → Bool → ℕ → ℕ → ℕ → Kernel
-kernelFor h pages o offset len =
-    record { header = record { 0 = o }; pages = pages; entry = h .«entry_addr»; segments = segmentFor h offset len ∷ replicate (maxSegments - 1) noSegment; count = 1 }
+kernelFor h pages o offset len = kernelWith o pages (h .«entry_addr») (segmentFor h offset len ∷ [])
+
+unfoldable pub fieldsKernel : List ℕ → Kernel
+fieldsKernel image = kernelFor (headerFields image) (onPages (headerFlags image)) (headerOffset image) (firstLoaded image) (countLoaded image)
+
+-- flag bit 16 decides between address fields and ELF, also in an ELF image
+abbrev pub isAddressed : List ℕ → Bool
+isAddressed image = not (noAddresses (headerFlags image))
 
 -- the kernel that an image asks for
 unfoldable pub kernelOf : List ℕ → Kernel
-kernelOf image = kernelFor (headerFields image) (onPages (headerFlags image)) (headerOffset image) (firstLoaded image) (countLoaded image)
+kernelOf image = cond (isAddressed image) (fieldsKernel image) (elfKernel image (headerOffset image) (onPages (headerFlags image)))
+
+-- the checks on the header: 6 to 8
+unfoldable pub headerChecks : List ℕ → List (Check Answer)
+headerChecks image =
+    noHeader (header image) gives NoHeader
+    ∷ unknownRequest (headerFlags image) gives UnknownRequest
+    ∷ unknownKind image (headerFlags image) gives NoAddressFields
+    ∷ []
+
+-- the checks on the load of `len` bytes from `offset` on, of an image of n bytes: 11 to 13
+unfoldable pub loadChecks : AddressFields → ℕ → ℕ → ℕ → List (Check Answer)
+loadChecks h offset len n =
+    nothingLeft h offset n gives NothingToLoad
+    ∷ pastImage h offset len n gives LoadPastImage
+    ∷ bssBelow h (loadEnd h len) gives BssBelowLoadEnd
+    ∷ []
+
+-- the checks on address fields: 9 to 13
+unfoldable pub fieldChecks : List ℕ → List (Check Answer)
+fieldChecks image =
+    cutOff (headerOffset image) (length image) gives HeaderCutOff
+    ∷ beforeImage (headerFields image) (headerOffset image) gives LoadBeforeImage
+    ∷ loadChecks (headerFields image) (firstLoaded image) (countLoaded image) (length image)
+
+-- 9 to 13 for address fields, 18 to 20 for ELF
+unfoldable pub kindChecks : List ℕ → List (Check Answer)
+kindChecks image =
+    onlyIf (isAddressed image) (fieldChecks image)
+    ++ onlyIf (not (isAddressed image)) (elfChecks image (elfKernel image (headerOffset image) (onPages (headerFlags image))))
+
+-- all of them, in order
+unfoldable pub imageChecks : List ℕ → List (Check Answer)
+imageChecks image = headerChecks image ++ kindChecks image ++ entryChecks (kernelOf image)

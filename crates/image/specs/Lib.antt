@@ -1,7 +1,6 @@
 -- The definitions that the contracts of `image` cite, and their laws.
 pub mod Load
 pub mod Narrow
-pub mod Kernel
 pub mod Judged
 pub mod Calculated
 pub mod JudgedLaws

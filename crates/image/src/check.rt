@@ -10,7 +10,7 @@ ghost use Prim.Native.Nat.{_+_, _^_, _<_};
 ghost use lib.Dec.{eqb, ltb};
 ghost use Rattle.laws.specs.Checks.{firstOf};
 ghost use Rattle.image.specs.Load.{loadEnd};
-ghost use Rattle.image.specs.Judged.{unknownRequest, noAddresses, cutOff, nothingLeft, pastImage, bssBelow, entryOutside, loadChecks};
+ghost use Rattle.image.specs.Judged.{unknownRequest, noAddresses, unknownKind, cutOff, nothingLeft, pastImage, bssBelow, loadChecks};
 
 // Whether any of flag bits 2 to 15 is set.
 pub(crate) fn unknown_request(flags: u32) -> bool
@@ -26,6 +26,16 @@ pub(crate) fn no_addresses(flags: u32) -> bool
     flags / 65536 % 2 == 0
 }
 
+// Whether flag bit 16 is clear, and the image does not begin with the ELF mark.
+pub(crate) fn unknown_kind(image: &[u8], flags: u32) -> bool
+    ensures { λ r. ⌜ r ≡ unknownKind (now (image .entry)) flags ⌝ }
+{
+    if !no_addresses(flags) {
+        return false;
+    }
+    !elf::is_elf(image)
+}
+
 // Whether the address fields of a header run past the searched part, or past the image of n bytes.
 pub(crate) fn cut_off(at: ImageOffset, n: usize) -> bool
     ensures { λ r. ⌜ r ≡ cutOff (at .0) n ⌝ }
@@ -36,7 +46,7 @@ pub(crate) fn cut_off(at: ImageOffset, n: usize) -> bool
     n < at.0 + load::FULL_HEADER
 }
 
-// The first of checks 11 to 14 that refuses a load of `len` bytes from the offset, of an image of n bytes.
+// The first of checks 11 to 13 that refuses a load of `len` bytes from the offset, of an image of n bytes.
 pub(crate) fn check_load(h: AddressFields, offset: ImageOffset, len: usize, n: usize) -> Answer
     requires { ⌜ (offset .0 + len < 2 ^ 64) × (loadEnd h len < 2 ^ 64) ⌝ }
     ensures { λ r. ⌜ r ≡ firstOf (loadChecks h (offset .0) len n) Answer.Load ⌝ }
@@ -50,9 +60,6 @@ pub(crate) fn check_load(h: AddressFields, offset: ImageOffset, len: usize, n: u
     }
     if bss_below(h, loaded) {
         return Answer::BssBelowLoadEnd;
-    }
-    if entry_outside(h, loaded) {
-        return Answer::EntryOutsideLoad;
     }
     Answer::Load
 }
@@ -96,14 +103,4 @@ fn bss_below(h: AddressFields, loaded: PhysAddr) -> bool
         return false;
     }
     h.bss_end_addr.0 < loaded.0
-}
-
-// Whether the entry is not among the load bytes.
-fn entry_outside(h: AddressFields, loaded: PhysAddr) -> bool
-    ensures { λ r. ⌜ r ≡ entryOutside h (loaded .0) ⌝ }
-{
-    if h.entry_addr.0 < h.load_addr.0 {
-        return true;
-    }
-    loaded.0 <= h.entry_addr.0
 }

@@ -1,56 +1,31 @@
-// A Multiboot image with address fields: its header, and where its bytes go.
+// A Multiboot image: its header, and the kernel that it asks for by address fields or as an ELF image.
 use address::ImageOffset;
-use address::PhysAddr;
 use answer::Answer;
 use header::Search;
+use kernel::Judged;
+use kernel::Kernel;
+use kernel::MAX_SEGMENTS;
+use kernel::Segment;
 use load::AddressFields;
 ghost use mathlib.Core.Path.{_≡_};
 ghost use Prim.Native.Nat.{_^_, _<_};
 ghost use Rattle.laws.specs.Checks.{firstOf};
 ghost use Rattle.header.specs.Header.{header};
-ghost use Rattle.image.specs.Load.{onPages, loadLength, loadEnd};
+ghost use Rattle.kernel.specs.Judge.{withEntry};
+ghost use Rattle.image.specs.Load.{flagsAt, onPages, loadLength, loadEnd};
 ghost use Rattle.image.specs.Narrow.{Narrow};
-ghost use Rattle.image.specs.Judged.{loadChecks, kernelFor};
-ghost use Rattle.image.specs.Judge.{refused, withKernel, judged};
-ghost use Rattle.image.specs.Kernel.{noSegment, noKernel};
+ghost use Rattle.image.specs.Judged.{headerFlags, loadChecks, kernelFor, fieldsKernel, fieldChecks, kindChecks, kernelOf};
+ghost use Rattle.image.specs.Judge.{judged};
 
 mod check;
 mod load;
-
-// At most so many segments.
-pub const MAX_SEGMENTS: usize = 16;
-
-// A stretch of the kernel: the addresses from start up to the load end get the image's bytes from `offset` on, those from
-// there up to the extent end zeros.
-pub struct Segment {
-    pub start: PhysAddr,
-    pub load_end: PhysAddr,
-    pub extent_end: PhysAddr,
-    pub offset: ImageOffset,
-}
-
-// What an image asks for: where its header stands, whether modules lie on pages, the entry, and its segments; past the
-// last segment the entries are zero.
-pub struct Kernel {
-    pub header: ImageOffset,
-    pub pages: bool,
-    pub entry: PhysAddr,
-    pub segments: [Segment; MAX_SEGMENTS],
-    pub count: usize,
-}
-
-// The answer of an image's checks, and its kernel; with a refusal the kernel is all zeros.
-pub struct Judged {
-    pub answer: Answer,
-    pub kernel: Kernel,
-}
 
 // The answer for an image, and the kernel that it asks for where no check refuses it.
 pub fn judge(image: &[u8]) -> Judged
     ensures { λ r. ⌜ r ≡ judged (now (image .entry)) ⌝ }
 {
     match header::find_header(image) {
-        Search::Nothing => refused(Answer::NoHeader),
+        Search::Nothing => kernel::refused(Answer::NoHeader),
         Search::At(at) => judge_header(image, at),
     }
 }
@@ -60,39 +35,58 @@ fn judge_header(image: &[u8], at: ImageOffset) -> Judged
     requires { ⌜ header (now image) ≡ Search.At at ⌝ }
     ensures { λ r. ⌜ r ≡ judged (now (image .entry)) ⌝ }
 {
-    let o = at.0;
-    let flags = number::read_u32(image, o + 4);
+    let flags = number::read_u32(image, at.0 + 4);
     if check::unknown_request(flags) {
-        return refused(Answer::UnknownRequest);
+        return kernel::refused(Answer::UnknownRequest);
     }
+    if check::unknown_kind(image, flags) {
+        return kernel::refused(Answer::NoAddressFields);
+    }
+    judge_kind(image, at, flags)
+}
+
+// The answer of the checks on address fields or on an ELF image, as the flags say, and of the one on the entry.
+fn judge_kind(image: &[u8], at: ImageOffset, flags: u32) -> Judged
+    requires { ⌜ (header (now image) ≡ Search.At at) × (flags ≡ flagsAt (now image) (at .0)) ⌝ }
+    ensures { λ r. ⌜ r ≡ withEntry (firstOf (kindChecks (now (image .entry))) Answer.Load) (kernelOf (now (image .entry))) ⌝ }
+{
+    let pages = load::on_pages(flags);
     if check::no_addresses(flags) {
-        return refused(Answer::NoAddressFields);
+        return elf::judge(image, at, pages);
     }
+    judge_fields(image, at, pages)
+}
+
+// The answer of the checks on the address fields of the header at `at`, and of the one on the entry.
+fn judge_fields(image: &[u8], at: ImageOffset, pages: bool) -> Judged
+    requires { ⌜ (header (now image) ≡ Search.At at) × (pages ≡ onPages (headerFlags (now image))) ⌝ }
+    ensures { λ r. ⌜ r ≡ withEntry (firstOf (fieldChecks (now (image .entry))) Answer.Load) (fieldsKernel (now (image .entry))) ⌝ }
+{
     if check::cut_off(at, image.len()) {
-        return refused(Answer::HeaderCutOff);
+        return kernel::refused(Answer::HeaderCutOff);
     }
-    let h = load::read_fields(image, o);
+    let h = load::read_fields(image, at.0);
     match load::load_offset(h, at) {
-        Search::Nothing => refused(Answer::LoadBeforeImage),
-        Search::At(offset) => judge_load(h, flags, at, offset, image.len()),
+        Search::Nothing => kernel::refused(Answer::LoadBeforeImage),
+        Search::At(offset) => judge_load(h, pages, at, offset, image.len()),
     }
 }
 
 // The answer for an image of n bytes whose load begins at the offset, once its header at `at` is accepted.
 fn judge_load(
     h: AddressFields,
-    flags: u32,
+    pages: bool,
     at: ImageOffset,
     offset: ImageOffset,
     n: usize,
 ) -> Judged
     requires { ⌜ Narrow h × (offset .0 < 2 ^ 32) × (n < 2 ^ 63) ⌝ }
-    ensures { λ r. ⌜ r ≡ withKernel (firstOf (loadChecks h (offset .0) (loadLength h (offset .0) n) n) Answer.Load) (kernelFor h (onPages flags) (at .0) (offset .0) (loadLength h (offset .0) n)) ⌝ }
+    ensures { λ r. ⌜ r ≡ withEntry (firstOf (loadChecks h (offset .0) (loadLength h (offset .0) n) n) Answer.Load) (kernelFor h pages (at .0) (offset .0) (loadLength h (offset .0) n)) ⌝ }
 {
     let len = load::load_length(h, offset, n);
     let answer = check::check_load(h, offset, len, n);
-    let kernel = kernel_for(h, load::on_pages(flags), at, offset, len);
-    with_kernel(answer, kernel)
+    let found = kernel_for(h, pages, at, offset, len);
+    kernel::judge_entry(answer, found)
 }
 
 // The kernel of a header at `at`, with `len` bytes to load from the offset.
@@ -109,7 +103,7 @@ fn kernel_for(
     let start = h.load_addr;
     let load_end = load::load_end(h, len);
     let extent_end = load::extent_end(h, load_end);
-    let mut segments = [no_segment(); MAX_SEGMENTS];
+    let mut segments = [kernel::no_segment(); MAX_SEGMENTS];
     segments[0] = Segment {
         start,
         load_end,
@@ -123,51 +117,5 @@ fn kernel_for(
         entry,
         segments,
         count: 1,
-    }
-}
-
-// A segment of zeros.
-fn no_segment() -> Segment
-    ensures { λ r. ⌜ r ≡ noSegment ⌝ }
-{
-    Segment {
-        start: PhysAddr(0),
-        load_end: PhysAddr(0),
-        extent_end: PhysAddr(0),
-        offset: ImageOffset(0),
-    }
-}
-
-// A kernel of zeros.
-pub fn no_kernel() -> Kernel
-    ensures { λ r. ⌜ r ≡ noKernel ⌝ }
-{
-    Kernel {
-        header: ImageOffset(0),
-        pages: false,
-        entry: PhysAddr(0),
-        segments: [no_segment(); MAX_SEGMENTS],
-        count: 0,
-    }
-}
-
-// The answer with the kernel, or with zeros where it is a refusal.
-fn with_kernel(answer: Answer, kernel: Kernel) -> Judged
-    ensures { λ r. ⌜ r ≡ withKernel answer kernel ⌝ }
-{
-    if answer::is_load(answer) {
-        Judged { answer, kernel }
-    } else {
-        refused(answer)
-    }
-}
-
-// The answer with zeros.
-fn refused(answer: Answer) -> Judged
-    ensures { λ r. ⌜ r ≡ refused answer ⌝ }
-{
-    Judged {
-        answer,
-        kernel: no_kernel(),
     }
 }

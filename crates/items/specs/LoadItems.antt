@@ -13,8 +13,8 @@ use Rattle.address.specs.Span.{noSpan, spanNo}
 use Rattle.submission.specs.declared.Layout.{Layout}
 use Rattle.submission.specs.Layout.{moduleNo}
 use Rattle.submission.specs.Format.{maxModules}
-use Rattle.image.specs.declared.Kernel.{Kernel}
-use Rattle.image.specs.Kernel.{extentNo}
+use Rattle.kernel.specs.declared.Kernel.{Kernel}
+use Rattle.kernel.specs.Kernel.{extentNo}
 use Rattle.placement.specs.declared.Item.{Item}
 use Rattle.placement.specs.declared.Items.{Items}
 use Rattle.placement.specs.declared.Spans.{Spans}

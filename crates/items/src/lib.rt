@@ -1,7 +1,6 @@
 // The items of a load, the kernel's extents that they are placed beside, and the spans of the modules among those placed.
-use address::PhysAddr;
 use address::Span;
-use image::Kernel;
+use kernel::Kernel;
 use placement::Item;
 use placement::Items;
 use placement::Spans;
@@ -10,7 +9,7 @@ ghost use mathlib.Core.Path.{_≡_};
 ghost use Prim.Native.Nat.{_+_, _≤_};
 ghost use Rattle.submission.specs.Format.{maxModules};
 ghost use Rattle.placement.specs.Free.{maxSpans};
-ghost use Rattle.image.specs.Kernel.{maxSegments, extentNo};
+ghost use Rattle.kernel.specs.Kernel.{maxSegments};
 ghost use Rattle.items.specs.LoadItems.{extentsOf, loadItem, itemsOf, moduleSpans};
 
 // The kernel's extents, as spans taken.
@@ -21,21 +20,10 @@ pub fn extents(kernel: Kernel) -> Spans
     let mut list = [Span::none(); placement::MAX_SPANS];
     let mut i = 0;
     while i < kernel.count {
-        list[i] = extent(kernel, i);
+        list[i] = kernel::extent(kernel, i);
         i += 1;
     }
     Spans { list, count: i }
-}
-
-// The extent of a segment.
-pub fn extent(kernel: Kernel, i: usize) -> Span
-    requires { ⌜ i + 1 ≤ maxSegments ⌝ }
-    ensures { λ r. ⌜ r ≡ extentNo kernel i ⌝ }
-{
-    let segment = kernel.segments[i];
-    let start = segment.start;
-    let end = segment.extent_end;
-    Span { start, end }
 }
 
 // The modules of a submission, on pages or not, and an information block of `size` bytes, as items.

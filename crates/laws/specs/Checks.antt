@@ -1,5 +1,6 @@
 -- Checks in order, of which the first that applies gives the answer.
 --     Check      a test, and the answer where it applies; written `test gives answer`
+--     onlyIf     checks that are made only where a test holds
 --     firstOf    the answer of the first check that applies
 --     passes     no check applies
 -- Assumes nothing.
@@ -13,6 +14,11 @@ pub record Check (A : Type 0) : Type 0 where
 infix 70 _gives_
 abbrev pub _gives_ : {A : Type 0} → Bool → A → Check A
 _gives_ t a = record { applies = t; answer = a }
+
+-- checks that apply only where t holds
+unfoldable pub onlyIf : {A : Type 0} → Bool → List (Check A) → List (Check A)
+onlyIf t [] = []
+onlyIf t (k ∷ ks) = (t && k .applies) gives (k .answer) ∷ onlyIf t ks
 
 -- the answer of the first check that applies, or `last` where none does
 unfoldable pub firstOf : {A : Type 0} → List (Check A) → A → A

@@ -1,5 +1,7 @@
 -- Definitions over tests, and their laws, for the other crates' specifications.
 pub mod Tests
+pub mod Passing
+pub mod PassingLaws
 pub mod TestLaws
 pub mod First
 pub mod FirstLaws

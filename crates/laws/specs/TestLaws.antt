@@ -3,8 +3,8 @@
 --     or-none-left, or-none-right                                neither of two tests passes
 --     and-left, and-right                                        both of two tests pass
 --     eqb-is, ltb-is, leb-is, not-is, false-is, or-is, and-is    what a test says
---     any-here, any-at, any-none, none-any                       some number passes, or none does
---     any-more, any-same, any-past                               one number more; tests that agree; no number passes from n on
+--     any-here, any-at, any-none, none-any, none-is              some number passes, or none does
+--     any-more, any-none-more, any-same, any-past                one number more; tests that agree; no number passes from n on
 --     all-intro, all-elim, all-not                               each number passes, or one does not
 --     all-zero, all-more                                         no number, and one number more
 --     run-is, run-says                                           where a run ends
@@ -92,6 +92,10 @@ module _ (f : ℕ → Bool) where
   unfolding any
   any-more k = rw add-one
 
+  -- one index more, and it does not pass either
+  pub any-none-more : (k : ℕ) → any f k ≡ false → f k ≡ false → any f (k + 1) ≡ false
+  any-none-more k e g = any-more k ∙ rw (e, g)
+
   pub any-here : (k i : ℕ) → i < k → f i ≡ true → any f k ≡ true
   unfolding any
   any-here zero i l e = absurd (omega arith)
@@ -112,6 +116,13 @@ module _ (f : ℕ → Bool) where
   none-any zero e i l = absurd (omega arith)
   none-any (suc k) e i l =
       ⊎-elim (λ q. rw q (or-none-right (any f k) (f k) e)) (λ m. none-any k (or-none-left (any f k) (f k) e) i m) (below-suc i k l)
+
+-- no number below n passes exactly where what the test says holds of none
+pub none-is : (f : ℕ → Bool) {P : ℕ → Type 0} (n : ℕ) → ((i : ℕ) → i < n → (f i ≡ true) ↔ P i) → (any f n ≡ false) ↔ ((i : ℕ) → i < n → P i → ⊥)
+none-is f n is = (
+  λ e i l p. false≢true (sym (none-any f n e i l) ∙ is i l .1 p),
+  λ h. any-none f n (λ i l. ⊎-elim (λ (t : f i ≡ true). absurd (h i l (is i l .0 t))) (λ (t : f i ≡ false). t) (true-or-false (f i))),
+)
 
 -- tests that agree below k
 pub any-same : (f g : ℕ → Bool) (k : ℕ) → ((i : ℕ) → i < k → f i ≡ g i) → any f k ≡ any g k

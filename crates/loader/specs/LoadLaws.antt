@@ -2,7 +2,7 @@
 --     Loads, loads                             no check refuses: what the stages have shown
 --     spanIn, countIn                          the spans of a load: the kernel's extents, the modules, and the information block
 --     Inside, span-inside                      each of them lies in open memory, so inside the window and below the top
---     span-apart                               no two of them share an address, but for two extents of the kernel
+--     span-apart                               no two of them share an address
 --     module-span, modules-past, block-span the plan's modules and block among them
 --     module-span-length, block-span-length    how long they are
 -- Assumes nothing.
@@ -22,7 +22,7 @@ use Rattle.answer.specs.ChainLaws.{chain-append, or-else-load}
 use Rattle.submission.specs.Layout.{moduleNo}
 use Rattle.submission.specs.Format.{maxModules}
 use Rattle.image.specs.JudgedLaws.{good-kernel}
-use Rattle.image.specs.Kernel.{extentNo}
+use Rattle.kernel.specs.Kernel.{extentNo}
 use Rattle.board.specs.Open.{isOpen}
 use Rattle.board.specs.OpenLaws.{open-is}
 use Rattle.placement.specs.declared.Item.{Item}
@@ -88,9 +88,6 @@ module _ (x : Lent) (l : Loads x) where
   unfolding extentsOf
   item-span i h = order .stands i (omega (arith, all-done))
 
-  pub one-segment : kernelIn x .count ≡ 1
-  one-segment = good-kernel (imageIn x) (l .passed .image) .one
-
   -- every address of a span is open
   pub span-open : (j : ℕ) → j < countIn x → (a : ℕ) → Holds (spanIn x j) a → isOpen (boardIn x) a ≡ true
   unfolding extentsOf kernelOpen extentOpen
@@ -110,10 +107,7 @@ module _ (x : Lent) (l : Loads x) where
   span-some j h =
       ⊎-elim
       (λ (u : j < kernelIn x .count).
-      let z : j ≡ 0 = omega (arith, one-segment) in
-      let k = good-kernel (imageIn x) (l .passed .image) in
-      let s : spanIn x j ≡ extentNo (kernelIn x) 0 = kernel-span j u ∙ ap (extentNo (kernelIn x)) z in
-      rw s (omega (arith, k .low, k .high, k .end)))
+      rw (kernel-span j u) (good-kernel (imageIn x) (l .passed .image) .segments j u .some))
       (λ (u : kernelIn x .count ≤ j).
       let e : kernelIn x .count + (j - kernelIn x .count) ≡ j = omega arith in
       let n = item-some (boardIn x) (kernelIn x) (layoutIn x) (blockLengthIn x) (prepared x (l .passed)) (j - kernelIn x .count) (omega arith) in
@@ -137,7 +131,9 @@ module _ (x : Lent) (l : Loads x) where
   unfolding extentsOf
   span-apart i j u h a p q =
       ⊎-elim
-      (λ (v : j < kernelIn x .count). omega (arith, one-segment))
+      (λ (v : j < kernelIn x .count).
+      let k = good-kernel (imageIn x) (l .passed .image) in
+      k .apart i j u v a (rw (kernel-span i (omega arith)) at p) (rw (kernel-span j v) at q))
       (λ (v : kernelIn x .count ≤ j). order .apart i j u v (omega (arith, span-count)) a p q)
       (lt-or-le j (kernelIn x .count))
 

@@ -24,7 +24,7 @@ use Rattle.submission.specs.Layout.{bytesOf}
 use Rattle.submission.specs.FormatLaws.{layout-count, module-at}
 use Rattle.submission.specs.Parse.{parsedSubmission}
 use Rattle.submission.specs.RuleLaws.{parsed-layout, string-inside}
-use Rattle.image.specs.Kernel.{maxSegments}
+use Rattle.kernel.specs.Kernel.{maxSegments}
 use Rattle.decision.specs.declared.Plan.{Plan}
 use Rattle.decision.specs.Lent.{Lent}
 use Rattle.decision.specs.Read.{layoutIn, kernelIn, lineIn}

@@ -2,7 +2,7 @@
 use address::PhysAddr;
 use address::Span;
 use decision::Plan;
-use image::Kernel;
+use kernel::Kernel;
 use submission::Layout;
 use submission::Part;
 ghost use mathlib.Core.Path.{_≡_};
@@ -16,7 +16,7 @@ ghost use Rattle.submission.specs.Format.{maxModules};
 ghost use Rattle.command_line.specs.CommandLine.{commandLine};
 ghost use Rattle.block.specs.Block.{blockOf};
 ghost use Rattle.block.specs.Writing.{SpansLow, StringsIn, Room};
-ghost use Rattle.image.specs.Kernel.{maxSegments};
+ghost use Rattle.kernel.specs.Kernel.{maxSegments};
 ghost use Rattle.decision.specs.Lent.{lent};
 ghost use Rattle.loader.specs.Memory.{segmentWrite, moduleWrite, contentsFor, writesOf};
 ghost use Rattle.loader.specs.Ready.{PlanOfLoad};

@@ -24,11 +24,11 @@ const LENGTH_OFFSET: usize = 12;
 
 const KIND_OFFSET: usize = 20;
 
-// A stretch of memory: the addresses from base on, as many as length says, of one type.
+// A stretch of memory: the addresses from base on, as many as length says, of one type, which is wide so that there is no gap.
 pub struct Pair {
     pub base: u64,
     pub length: u64,
-    pub kind: u32,
+    pub kind: u64,
 }
 
 // The pairs of a map; past the last the entries are zero.
@@ -112,7 +112,7 @@ fn read_pair(m: &[u8], at: usize) -> Pair
     Pair {
         base: number::read_u64(m, at + BASE_OFFSET),
         length: number::read_u64(m, at + LENGTH_OFFSET),
-        kind: number::read_u32(m, at + KIND_OFFSET),
+        kind: number::read_u32(m, at + KIND_OFFSET) as u64,
     }
 }
 

@@ -12,7 +12,7 @@ use lib.ListN.{length, getD}
 use Rattle.buffer.specs.Patched.{zeros}
 use Rattle.address.specs.Span.{spanNo}
 use Rattle.answer.specs.Answer.{numberOf, itemOf}
-use Rattle.image.specs.Kernel.{segmentNo}
+use Rattle.kernel.specs.Kernel.{segmentNo}
 use Rattle.decision.specs.declared.Plan.{Plan}
 use Rattle.decision.specs.declared.Decision.{Decision}
 use Rattle.viertompu.specs.Joined.{joined}

@@ -28,7 +28,7 @@ use Rattle.answer.specs.Answer.{numberOf, itemOf}
 use Rattle.answer.specs.AnswerLaws.{item-none, number-most}
 use Rattle.submission.specs.Layout.{layoutOf}
 use Rattle.submission.specs.Format.{maxModules, moduleCount}
-use Rattle.image.specs.Kernel.{maxSegments, segmentNo}
+use Rattle.kernel.specs.Kernel.{maxSegments, segmentNo}
 use Rattle.image.specs.JudgedLaws.{good-kernel}
 use Rattle.decision.specs.declared.Plan.{Plan}
 use Rattle.decision.specs.declared.Decision.{Decision}
@@ -37,7 +37,7 @@ use Rattle.decision.specs.Read.{layoutIn, imageIn, kernelIn}
 use Rattle.decision.specs.Decided.{planOf}
 use Rattle.decision.specs.Plan.{noPlan}
 use Rattle.decision.specs.Decision.{planIn, decisionOf}
-use Rattle.loader.specs.LoadLaws.{Loads, loads, span-inside, kernel-span, one-segment, module-span, block-span, modules-past}
+use Rattle.loader.specs.LoadLaws.{Loads, loads, span-inside, kernel-span, module-span, block-span, modules-past}
 use Rattle.loader.specs.WriteLaws.{spans-low}
 use Rattle.theorems.specs.AnsweredLaws.{number-load, load-plan, refusal-plan, room-item}
 use Rattle.viertompu.specs.Joined.{joined}
@@ -158,10 +158,19 @@ record GoodPlan (q : Plan) (n : ℕ) : Type 0 where
   module-past : (i : ℕ) → n ≤ i → spanNo (q .modules) i .end .0 ≡ 0
 
 module _ (x : Lent) (h : Loads x) where
-  extent-low : segmentNo (kernelIn x) 0 .«extent_end» .0 < 2 ^ 32
-  extent-low =
-      let e = ap (λ (s : Span). s .end .0) (kernel-span x h 0 (omega (arith, one-segment x h))) in
-      omega (arith, span-inside x h 0 (omega arith) .top)
+  -- every number of a segment of the kernel is below 2^32, and so is the entry, which lies in one of them
+  extent-low : (i : ℕ) → i < kernelIn x .count → segmentNo (kernelIn x) i .«extent_end» .0 < 2 ^ 32
+  extent-low i u =
+      let e = ap (λ (s : Span). s .end .0) (kernel-span x h i u) in
+      omega (arith, span-inside x h i (omega arith) .top)
+
+  segment-low : (i : ℕ) → (segmentNo (kernelIn x) i .start .0 < 2 ^ 32) × (segmentNo (kernelIn x) i .«load_end» .0 < 2 ^ 32) × (segmentNo (kernelIn x) i .«extent_end» .0 < 2 ^ 32)
+  segment-low i =
+      let k = good-kernel (imageIn x) (h .passed .image) in
+      ⊎-elim
+      (λ (u : i < kernelIn x .count). let s = k .segments i u in (omega (arith, s .some, extent-low i u), omega (arith, s .end, extent-low i u), extent-low i u))
+      (λ (u : kernelIn x .count ≤ i). rw (k .rest i u) (omega arith, omega arith, omega arith))
+      (lt-or-le i (kernelIn x .count))
 
   good-plan : GoodPlan (planIn x) (moduleCount (x .submission))
   unfolding planOf layoutOf
@@ -169,29 +178,22 @@ module _ (x : Lent) (h : Loads x) where
       let k = good-kernel (imageIn x) (h .passed .image) in
       let b = span-inside x h (kernelIn x .count + layoutIn x .count) (omega arith) in
       let m = spans-low x h in
-      let l = extent-low in
       record {
-        header = omega arith;
-        entry = omega arith;
+        header = omega (arith, k .early);
+        entry = omega (arith, k .entered .3, segment-low (k .entered .0));
         eax = omega arith;
         ebx = omega arith;
         block = rw (block-span x h) (omega arith, omega arith);
-        segments = λ i.
-            ⊎-elim
-            (λ (u : i < 1).
-            let z : i ≡ 0 = omega arith in
-            rw z (omega arith, omega arith, l))
-            (λ (u : 1 ≤ i). rw (k .rest i u) (omega arith, omega arith, omega arith))
-            (lt-or-le i 1);
+        segments = segment-low;
         modules = λ i.
             ⊎-elim
             (λ (u : i < layoutIn x .count). (m .starts i u, m .ends i u))
             (λ (u : layoutIn x .count ≤ i). rw (modules-past x h i u) (omega arith, omega arith))
             (lt-or-le i (layoutIn x .count));
-        few-segments = omega arith;
+        few-segments = k .few;
         few-modules = m .few;
-        segment-some = λ i u. let z : i ≡ 0 = omega arith in rw z (omega arith);
-        segment-past = λ i u. rw (k .rest i (omega arith)) refl;
+        segment-some = λ i u. omega (arith, k .segments i u .some);
+        segment-past = λ i u. rw (k .rest i u) refl;
         module-some = λ i u. rw (module-span x h i u) (omega (arith, span-inside x h (kernelIn x .count + i) (omega arith) .some));
         module-past = λ i u. rw (modules-past x h i u) refl;
       }
@@ -256,7 +258,7 @@ refused : (a : Answer) → planWords (record { answer = a; plan = noPlan }) ≡ 
 unfolding planWords headWords noPlan joined
 refused a = refl
 
--- a number is at most 17, and an item is the index of one of 16 modules at most
+-- a number is at most 20, and an item is the index of one of 16 modules at most
 item-low : (x : Lent) → itemOf (decisionOf x .answer) < 2 ^ 32
 item-low x =
     ⊎-elim

@@ -12,7 +12,7 @@ use borrow.Author.Tests.{eq-eqb, ne-eqb}
 use lib.ListN.{length, take, drop, getD, set, length-set, length-take, length-drop, drop-of-length-le}
 use lib.Seq.{drop-cons, getD-set-same, drop-set-lt, take-set-lt, take-all, length-take-le}
 use Rattle.submission.specs.Format.{maxModules}
-use Rattle.image.specs.Kernel.{maxSegments}
+use Rattle.kernel.specs.Kernel.{maxSegments}
 use Rattle.viertompu.specs.Joined.{joined}
 use Rattle.report.specs.Text.{Wrote, blank, newline, hexLength, decimalLength, glyphOf, digitsOf, leadingZeros, decimalText, fieldText}
 use Rattle.report.specs.TextLaws.{wrote-behind}

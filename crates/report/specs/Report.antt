@@ -12,7 +12,7 @@ use Prim.Native.Nat.{ℕ, _+_, _*_}
 use lib.Dec.{eqb}
 use lib.ListN.{getD}
 use Rattle.submission.specs.Format.{maxModules}
-use Rattle.image.specs.Kernel.{maxSegments}
+use Rattle.kernel.specs.Kernel.{maxSegments}
 use Rattle.viertompu.specs.Joined.{joined}
 use Rattle.viertompu.specs.Words.{firstSegment, wordsPerSegment, firstModule, wordsPerModule}
 use Rattle.report.specs.Text.{blank, newline, decimalText, fieldsText}

@@ -1,6 +1,6 @@
 // The report on a plan: a line for each segment and module and one for the information block, or one for a refusal. Each
 // function writes its text from an offset on and gives the offset behind it.
-use image::MAX_SEGMENTS;
+use kernel::MAX_SEGMENTS;
 use submission::MAX_MODULES;
 use viertompu::BLOCK_END;
 use viertompu::BLOCK_START;
@@ -15,7 +15,7 @@ use viertompu::WORDS_PER_SEGMENT;
 ghost use Prim.Native.Nat.{_+_, _*_, _≤_, _<_, _^_};
 ghost use lib.ListN.{length};
 ghost use Rattle.submission.specs.Format.{maxModules};
-ghost use Rattle.image.specs.Kernel.{maxSegments};
+ghost use Rattle.kernel.specs.Kernel.{maxSegments};
 ghost use Rattle.viertompu.specs.Joined.{joined};
 ghost use Rattle.report.specs.Text.{Wrote};
 ghost use Rattle.report.specs.Report.{maxLineText, maxReport, lineText, refusalText, segmentLine, moduleLine, reportOf};

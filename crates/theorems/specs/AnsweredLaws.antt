@@ -4,22 +4,26 @@
 --     answered                  for all that is lent
 --     number-load, load-plan    the number 0 is a load, and gives its plan
 -- Assumes nothing.
-use mathlib.Core.Path.{_≡_, refl, sym, ap, _∙_}
+use mathlib.Core.Path.{_≡_, refl, sym, ap, subst, _∙_}
 use mathlib.Core.Bool.{Bool, true, false, not, false≢true, _&&_, _||_}
 use mathlib.Core.List.{List}
-use mathlib.Core.Logic.{_↔_}
-use Prim.Native.Nat.{ℕ, _+_, _-_, _/_, _%_, _^_, _≤_, _<_}
+use mathlib.Core.Logic.{_↔_, _⊎_, ⊎-elim}
+use Prim.Native.Nat.{ℕ, suc, _+_, _-_, _/_, _%_, _^_, _≤_, _<_}
+use native.Mathlib.Nat.{eq-or-lt-of-le}
 use native.Mathlib.Omega.{arith}
 use borrow.Author.Tests.{eq-eqb, ne-eqb, ltb-false, le-ltb, ltb-true, not-false}
 use lib.Dec.{eqb, ltb, leb}
 use lib.ListN.{length}
+use Rattle.laws.specs.Checks.{onlyIf}
+use Rattle.laws.specs.Tests.{any}
+use Rattle.laws.specs.CheckLaws.{not-to-true, not-to-false}
 use Rattle.laws.specs.TestLaws.{or-none-left, or-none-right, eqb-is, ltb-is, leb-is, not-is, false-is, or-is, and-is}
 use Rattle.number.specs.Number.{numberAt}
 use Rattle.address.specs.Address.{top}
 use Rattle.answer.specs.Answer.{numberOf, isLoad, itemOf}
 use Rattle.answer.specs.AnswerLaws.{item-none}
-use Rattle.answer.specs.Chain.{appliesNo, First}
-use Rattle.answer.specs.ChainLaws.{numberedFrom, number-given, number-first, none-given, none-applies, first-answer}
+use Rattle.answer.specs.Chain.{checkOrder, placeIn, Before}
+use Rattle.answer.specs.ChainLaws.{refuses, numbers, distinct, appliesFor, applies-other, answerFor, first-answer, answer-number, number-first, none-given, none-applies}
 use Rattle.submission.specs.Scan.{hasZero}
 use Rattle.submission.specs.ScanLaws.{no-zero, zero-free}
 use Rattle.submission.specs.Layout.{layoutOf}
@@ -33,8 +37,15 @@ use Rattle.header.specs.declared.Search.the-variants.{At, Nothing}
 use Rattle.header.specs.Header.{header}
 use Rattle.header.specs.HeaderAt.{HeaderAt}
 use Rattle.header.specs.HeaderLaws.{header-none, none-header, lowest-header}
-use Rattle.image.specs.Load.{flagsAt, fieldsAt, loadOffset, loadLength, loadEnd, fullHeader}
-use Rattle.image.specs.Judged.{noHeader, offsetOf, unknownRequest, noAddresses, cutOff, beforeImage, nothingLeft, pastImage, bssBelow, entryOutside, headerOffset, headerChecks, loadChecks, imageChecks}
+use Rattle.elf.specs.Elf.{isElf, elfHeader}
+use Rattle.elf.specs.Segments.{elfKernel}
+use Rattle.elf.specs.Checks.{wellFormed, badNo, elfChecks}
+use Rattle.elf.specs.ElfLaws.{elf-good-is, headers-good-is, segments-apart-is}
+use Rattle.kernel.specs.declared.Kernel.{Kernel}
+use Rattle.kernel.specs.Checks.{entryChecks, extentsOverlap}
+use Rattle.image.specs.Load.{flagsAt, onPages, fieldsAt, loadOffset, loadLength, loadEnd, fullHeader}
+use Rattle.image.specs.Judged.{noHeader, offsetOf, unknownRequest, noAddresses, unknownKind, cutOff, beforeImage, nothingLeft, pastImage, bssBelow, headerOffset, headerFlags, isAddressed, headerChecks, loadChecks, fieldChecks, kindChecks, imageChecks}
+use Rattle.image.specs.JudgedLaws.{fields-entry-is, elf-entry-is}
 use Rattle.memory_map.specs.Map.{badMap, mapChecks}
 use Rattle.memory_map.specs.PairsLaws.{map-good-is}
 use Rattle.board.specs.Window.{windowChecks}
@@ -44,19 +55,19 @@ use Rattle.decision.specs.Decided.{kernelChecks, roomChecks, decidedBy}
 use Rattle.decision.specs.Plan.{noPlan}
 use Rattle.decision.specs.Decision.{lentChecks, checks, answerOf, decisionOf, planIn, placedIn}
 use Rattle.loader.specs.Memory.{memoryAfter}
-use Rattle.theorems.specs.Promises.{OfLoad, OfHeader, Conditions, Answered}
+use Rattle.theorems.specs.Promises.{OfLoad, OfFields, OfElf, OfHeader, bit16, Conditions, Answered}
 
--- the refusal k is the check of the index k - 1
+-- the condition of a refusal is that its check applies
 abbrev pub holdsIn : Lent → ℕ → Bool
-holdsIn x k = appliesNo (checks x) (k - 1)
+holdsIn x k = appliesFor (checks x) k
 
--- the checks on a header and its load, by the tests of the definitions
+-- the checks on address fields and their load, by the tests of the definitions
 module _ (image : List ℕ) (o : ℕ) (c : ℕ → Bool) where
   of-load : (offset len n : ℕ)
       → c 11 ≡ nothingLeft (fieldsAt image o) offset n
       → c 12 ≡ pastImage (fieldsAt image o) offset len n
       → c 13 ≡ bssBelow (fieldsAt image o) (loadEnd (fieldsAt image o) len)
-      → c 14 ≡ entryOutside (fieldsAt image o) (loadEnd (fieldsAt image o) len)
+      → (c 14 ≡ true) ↔ ((fieldsAt image o .«entry_addr» .0 < fieldsAt image o .«load_addr» .0) ⊎ (loadEnd (fieldsAt image o) len ≤ fieldsAt image o .«entry_addr» .0))
       → OfLoad (fieldsAt image o) offset len n c
   of-load offset len n e11 e12 e13 e14 =
       let h = fieldsAt image o in
@@ -66,26 +77,28 @@ module _ (image : List ℕ) (o : ℕ) (c : ℕ → Bool) where
         c11 = rw e11 (and-is (eqb end 0) (leb n offset) (eqb-is end 0) (leb-is n offset));
         c12 = rw e12 (or-is (not (eqb end 0) && ltb end (h .«load_addr» .0)) (ltb n (offset + len)) (and-is (not (eqb end 0)) (ltb end (h .«load_addr» .0)) (not-is (eqb end 0) (eqb-is end 0)) (ltb-is end (h .«load_addr» .0))) (ltb-is n (offset + len)));
         c13 = rw e13 (and-is (not (eqb bss 0)) (ltb bss (h .«load_addr» .0 + len)) (not-is (eqb bss 0) (eqb-is bss 0)) (ltb-is bss (h .«load_addr» .0 + len)));
-        c14 = rw e14 (or-is (ltb (h .«entry_addr» .0) (h .«load_addr» .0)) (leb (h .«load_addr» .0 + len) (h .«entry_addr» .0)) (ltb-is (h .«entry_addr» .0) (h .«load_addr» .0)) (leb-is (h .«load_addr» .0 + len) (h .«entry_addr» .0)));
+        c14 = e14;
       }
 
-  of-header :
-      c 7 ≡ unknownRequest (flagsAt image o) → c 8 ≡ noAddresses (flagsAt image o)
-      → c 9 ≡ cutOff o (length image) → c 10 ≡ beforeImage (fieldsAt image o) o
+  of-fields :
+      c 9 ≡ cutOff o (length image) → c 10 ≡ beforeImage (fieldsAt image o) o
       → OfLoad (fieldsAt image o) (loadOffset (fieldsAt image o) o) (loadLength (fieldsAt image o) (loadOffset (fieldsAt image o) o) (length image)) (length image) c
-      → OfHeader image o c
+      → ((k : ℕ) → 18 ≤ k → k ≤ 20 → c k ≡ false)
+      → OfFields image o c
   unfolding fieldsAt
-  of-header e7 e8 e9 e10 load =
-      let f = flagsAt image o in
+  of-fields e9 e10 load none =
       let a = numberAt 4 image (o + 12) in
       let b = numberAt 4 image (o + 16) in
       record {
-        c7 = rw e7 (not-is (eqb (f / 2 ^ 2 % 2 ^ 14) 0) (eqb-is (f / 2 ^ 2 % 2 ^ 14) 0));
-        c8 = rw e8 (eqb-is (f / 2 ^ 16 % 2) 0);
         c9 = rw e9 (or-is (ltb 8192 (o + fullHeader)) (ltb (length image) (o + fullHeader)) (ltb-is 8192 (o + fullHeader)) (ltb-is (length image) (o + fullHeader)));
         c10 = rw e10 (or-is (ltb a b) (ltb o (a - b)) (ltb-is a b) (ltb-is o (a - b)));
         load = load;
+        no-elf = none;
       }
+
+-- what holds of a and of the numbers behind it up to b holds of those from a on
+from-on : (P : ℕ → Type 0) (a b : ℕ) → P a → ((k : ℕ) → suc a ≤ k → k ≤ b → P k) → (k : ℕ) → a ≤ k → k ≤ b → P k
+from-on P a b p h k l m = ⊎-elim (λ (e : a ≡ k). subst P e p) (λ (u : a < k). h k u m) (eq-or-lt-of-le l)
 
 -- a search that found nothing
 of-search : (s : List ℕ) (r : Search) → header s ≡ r → (noHeader (header s) ≡ true) ↔ ((o : ℕ) → HeaderAt s o → ⊥)
@@ -104,24 +117,67 @@ module _ (x : Lent) where
   header-known : (o : ℕ) → HeaderAt (imageIn x) o → ((p : ℕ) → p < o → HeaderAt (imageIn x) p → ⊥) → headerOffset (imageIn x) ≡ o
   header-known o h low = ap offsetOf (lowest-header (imageIn x) o h low)
 
+  -- a check that is made only where t holds
+  made : (t u : Bool) → t ≡ true → (t && u) ≡ u
+  made t u e = rw e
+
+  -- where flag bit 16 is set the address fields decide
+  module _ (a : isAddressed (imageIn x) ≡ true) where
+    at-fields : (o : ℕ) → headerOffset (imageIn x) ≡ o → OfFields (imageIn x) o (holdsIn x)
+    unfolding appliesFor onlyIf checks lentChecks submissionChecks operatorChecks windowChecks mapChecks headerChecks loadChecks fieldChecks kindChecks entryChecks elfChecks imageChecks
+    at-fields o e =
+        let image = imageIn x in
+        let n = length image in
+        let offset = loadOffset (fieldsAt image o) o in
+        let P : ℕ → Type 0 = λ k. holdsIn x k ≡ false in
+        of-fields image o (holdsIn x)
+        (made _ _ a ∙ ap (λ (i : ℕ). cutOff i n) e)
+        (made _ _ a ∙ ap (λ (i : ℕ). beforeImage (fieldsAt image i) i) e)
+        (of-load image o (holdsIn x) offset (loadLength (fieldsAt image o) offset n) n
+        (made _ _ a ∙ ap (λ (i : ℕ). nothingLeft (fieldsAt image i) (loadOffset (fieldsAt image i) i) n) e)
+        (made _ _ a ∙ ap (λ (i : ℕ). pastImage (fieldsAt image i) (loadOffset (fieldsAt image i) i) (loadLength (fieldsAt image i) (loadOffset (fieldsAt image i) i) n) n) e)
+        (made _ _ a ∙ ap (λ (i : ℕ). bssBelow (fieldsAt image i) (loadEnd (fieldsAt image i) (loadLength (fieldsAt image i) (loadOffset (fieldsAt image i) i) n))) e)
+        (subst (λ (i : ℕ). (holdsIn x 14 ≡ true) ↔ ((fieldsAt image i .«entry_addr» .0 < fieldsAt image i .«load_addr» .0) ⊎ (loadEnd (fieldsAt image i) (loadLength (fieldsAt image i) (loadOffset (fieldsAt image i) i) n) ≤ fieldsAt image i .«entry_addr» .0))) e (fields-entry-is image a)))
+        (from-on P 18 20 (rw a) (from-on P 19 20 (rw a) (from-on P 20 20 (rw a) (λ k l m. absurd (omega arith)))))
+
+  -- where it is clear the table of an ELF image does
+  module _ (a : isAddressed (imageIn x) ≡ false) where
+    abbrev elfIn : Kernel
+    elfIn = elfKernel (imageIn x) (headerOffset (imageIn x)) (onPages (headerFlags (imageIn x)))
+
+    at-elf : OfElf (imageIn x) (holdsIn x)
+    unfolding appliesFor onlyIf checks lentChecks submissionChecks operatorChecks windowChecks mapChecks headerChecks loadChecks fieldChecks kindChecks entryChecks elfChecks imageChecks
+    at-elf =
+        let image = imageIn x in
+        let o = headerOffset image in
+        let pages = onPages (headerFlags image) in
+        let none = not-to-true (isAddressed image) a in
+        let P : ℕ → Type 0 = λ k. holdsIn x k ≡ false in
+        record {
+          c18 = rw none (false-is (not (wellFormed (elfHeader image) (length image)) || eqb (elfIn .count) 0) (elf-good-is image o pages));
+          c19 = rw none (false-is (any (badNo image) (elfHeader image .«e_phnum»)) (headers-good-is image));
+          c20 = rw none (false-is (extentsOverlap elfIn) (segments-apart-is image o pages));
+          c14 = elf-entry-is image a;
+          no-fields = from-on P 9 13 (rw a) (from-on P 10 13 (rw a) (from-on P 11 13 (rw a) (from-on P 12 13 (rw a) (from-on P 13 13 (rw a) (λ k l m. absurd (omega arith))))));
+        }
+
   at-header : (o : ℕ) → headerOffset (imageIn x) ≡ o → OfHeader (imageIn x) o (holdsIn x)
-  unfolding checks lentChecks submissionChecks operatorChecks windowChecks mapChecks headerChecks loadChecks imageChecks
+  unfolding appliesFor onlyIf checks lentChecks submissionChecks operatorChecks windowChecks mapChecks headerChecks loadChecks fieldChecks kindChecks entryChecks elfChecks imageChecks unknownKind
   at-header o e =
       let image = imageIn x in
-      let n = length image in
-      of-header image o (holdsIn x)
-      (ap (λ (i : ℕ). unknownRequest (flagsAt image i)) e)
-      (ap (λ (i : ℕ). noAddresses (flagsAt image i)) e)
-      (ap (λ (i : ℕ). cutOff i n) e)
-      (ap (λ (i : ℕ). beforeImage (fieldsAt image i) i) e)
-      (of-load image o (holdsIn x) (loadOffset (fieldsAt image o) o) (loadLength (fieldsAt image o) (loadOffset (fieldsAt image o) o) n) n
-      (ap (λ (i : ℕ). nothingLeft (fieldsAt image i) (loadOffset (fieldsAt image i) i) n) e)
-      (ap (λ (i : ℕ). pastImage (fieldsAt image i) (loadOffset (fieldsAt image i) i) (loadLength (fieldsAt image i) (loadOffset (fieldsAt image i) i) n) n) e)
-      (ap (λ (i : ℕ). bssBelow (fieldsAt image i) (loadEnd (fieldsAt image i) (loadLength (fieldsAt image i) (loadOffset (fieldsAt image i) i) n))) e)
-      (ap (λ (i : ℕ). entryOutside (fieldsAt image i) (loadEnd (fieldsAt image i) (loadLength (fieldsAt image i) (loadOffset (fieldsAt image i) i) n))) e))
+      let f = flagsAt image o in
+      let e7 = ap (λ (i : ℕ). unknownRequest (flagsAt image i)) e in
+      let e8 = ap (λ (i : ℕ). unknownKind image (flagsAt image i)) e in
+      let bit : headerFlags image / 2 ^ 16 % 2 ≡ bit16 image o = ap (λ (i : ℕ). flagsAt image i / 2 ^ 16 % 2) e in
+      record {
+        c7 = rw e7 (not-is (eqb (f / 2 ^ 2 % 2 ^ 14) 0) (eqb-is (f / 2 ^ 2 % 2 ^ 14) 0));
+        c8 = rw e8 (and-is (noAddresses f) (not (isElf image)) (eqb-is (f / 2 ^ 16 % 2) 0) (not-is (isElf image) (eqb-is (numberAt 4 image 0) 0x464C457F)));
+        fields = λ b. at-fields (not-to-true (noAddresses (headerFlags image)) (ne-eqb _ 0 (λ (z : headerFlags image / 2 ^ 16 % 2 ≡ 0). omega arith))) o e;
+        elf = λ b. at-elf (not-to-false (noAddresses (headerFlags image)) (eq-eqb _ 0 (bit ∙ b)));
+      }
 
   pub conditions : Conditions x (holdsIn x)
-  unfolding checks lentChecks submissionChecks operatorChecks windowChecks mapChecks headerChecks loadChecks imageChecks layoutOf
+  unfolding appliesFor onlyIf checks lentChecks submissionChecks operatorChecks windowChecks mapChecks headerChecks loadChecks fieldChecks kindChecks entryChecks elfChecks imageChecks layoutOf
   conditions =
       record {
         c1 = not-is (isSubmission (x .submission)) (marked-is (x .submission));
@@ -133,9 +189,22 @@ module _ (x : Lent) where
         header = λ o h low. at-header o (header-known o h low);
       }
 
-  numbered : numberedFrom 1 (checks x) ≡ true
-  unfolding numberedFrom checks lentChecks submissionChecks operatorChecks windowChecks mapChecks headerChecks loadChecks imageChecks kernelChecks roomChecks
-  numbered = refl
+  -- the numbers of the checks are those of the order, each once, and all of them refuse
+  pub numbers-are : numbers (checks x) ≡ checkOrder
+  unfolding numbers onlyIf checks lentChecks submissionChecks operatorChecks windowChecks mapChecks headerChecks loadChecks fieldChecks kindChecks entryChecks elfChecks imageChecks kernelChecks roomChecks
+  numbers-are = refl
+
+  numbered : distinct (numbers (checks x)) ≡ true
+  unfolding distinct placeIn
+  numbered = rw numbers-are refl
+
+  checks-refuse : refuses (checks x) ≡ true
+  unfolding refuses onlyIf checks lentChecks submissionChecks operatorChecks windowChecks mapChecks headerChecks loadChecks fieldChecks kindChecks entryChecks elfChecks imageChecks kernelChecks roomChecks
+  checks-refuse = refl
+
+  checks-many : length (checks x) ≡ length checkOrder
+  unfolding onlyIf checks lentChecks submissionChecks operatorChecks windowChecks mapChecks headerChecks loadChecks fieldChecks kindChecks entryChecks elfChecks imageChecks kernelChecks roomChecks
+  checks-many = refl
 
   pub decided-answer : decisionOf x .answer ≡ answerOf x
   unfolding decisionOf decidedBy
@@ -160,31 +229,28 @@ module _ (x : Lent) where
   unfolding memoryAfter
   refusal-window w h = rw (not-load h)
 
-  -- the refusals are counted from 1, the checks from 0
-  refusal-is : (k : ℕ) → 1 ≤ k → (numberOf (decisionOf x .answer) ≡ k) ↔ ((holdsIn x k ≡ true) × ((j : ℕ) → 1 ≤ j → j < k → holdsIn x j ≡ false))
+  -- a number is given exactly where its check is the first that applies
+  refusal-is : (k : ℕ) → 1 ≤ k → (numberOf (decisionOf x .answer) ≡ k) ↔ ((holdsIn x k ≡ true) × ((j : ℕ) → Before j k → holdsIn x j ≡ false))
   refusal-is k l = (
-    λ h.
-        let f = number-first 1 (omega arith) (checks x) (k - 1) numbered (ap numberOf (sym decided-answer) ∙ h ∙ omega arith) in
-        (f .applies, λ j m n. f .earliest (j - 1) (omega arith)),
-    λ h.
-        let f : First (checks x) (k - 1) = record { applies = h .0; earliest = λ j m. let e : j + 1 - 1 ≡ j = omega arith in rw e at (h .1 (j + 1) (omega arith) (omega arith)) } in
-        ap numberOf decided-answer ∙ number-given 1 (checks x) (k - 1) numbered f ∙ omega arith,
+    λ h. rw (← numbers-are) (number-first (checks x) k numbered l (ap numberOf (sym decided-answer) ∙ h)),
+    λ h. ap numberOf (decided-answer ∙ first-answer (checks x) k numbered (h .0) (rw numbers-are (h .1))) ∙ answer-number (checks x) k (h .0),
   )
 
-  none-is : (numberOf (decisionOf x .answer) ≡ 0) ↔ ((k : ℕ) → 1 ≤ k → holdsIn x k ≡ false)
+  none-is : (numberOf (decisionOf x .answer) ≡ 0) ↔ ((k : ℕ) → holdsIn x k ≡ false)
   none-is = (
-    λ h k l. none-applies 1 (omega arith) (checks x) numbered (ap numberOf (sym decided-answer) ∙ h) (k - 1),
-    λ h. ap numberOf decided-answer ∙ none-given (checks x) (λ k. let e : k + 1 - 1 ≡ k = omega arith in rw e at (h (k + 1) (omega arith))),
+    λ h. none-applies (checks x) checks-refuse (ap numberOf (sym decided-answer) ∙ h),
+    λ h. ap numberOf decided-answer ∙ none-given (checks x) numbered h,
   )
 
   -- 16 has the index of a module for its item
   pub room-item : numberOf (decisionOf x .answer) ≡ 16 → (itemOf (decisionOf x .answer) ≡ placedIn x .done) × (placedIn x .done < moduleCount (x .submission)) × GoodSubmission (x .submission)
-  unfolding checks lentChecks submissionChecks operatorChecks windowChecks mapChecks headerChecks loadChecks imageChecks kernelChecks roomChecks layoutOf
+  unfolding placeIn answerFor appliesFor onlyIf checks lentChecks submissionChecks operatorChecks windowChecks mapChecks headerChecks loadChecks fieldChecks kindChecks entryChecks elfChecks imageChecks kernelChecks roomChecks layoutOf
   room-item e =
-      let f = number-first 1 (omega arith) (checks x) 15 numbered (ap numberOf (sym decided-answer) ∙ e) in (
-        ap itemOf (decided-answer ∙ first-answer (checks x) 15 f),
-        ltb-true _ _ (f .applies),
-        submission-good-is (x .submission) .0 (not-false _ (f .earliest 1 (omega arith))),
+      let f = number-first (checks x) 16 numbered (omega arith) (ap numberOf (sym decided-answer) ∙ e) in
+      let early : Before 2 16 = omega arith in (
+        ap itemOf (decided-answer ∙ first-answer (checks x) 16 numbered (f .0) (f .1)),
+        ltb-true _ _ (f .0),
+        submission-good-is (x .submission) .0 (not-false _ (f .1 2 (rw numbers-are early))),
       )
 
   pub answered : (w : List ℕ) → Answered (decisionOf x) w (memoryAfter x w) (holdsIn x)
@@ -192,6 +258,7 @@ module _ (x : Lent) where
       record {
         refusal = refusal-is;
         load = none-is;
+        other = λ k l. applies-other (checks x) k (rw numbers-are (omega (arith, checks-many)));
         item = item-none (decisionOf x .answer);
         plan = refusal-plan;
         window = refusal-window w;

@@ -1,5 +1,5 @@
 -- The third promise: the kernel, and each item at its lowest place beside it, no room exactly where there is none.
---     on-memory    wherever none of 1 to 14 holds
+--     on-memory    wherever none before 15 holds
 -- Assumes nothing.
 use mathlib.Core.Path.{_≡_, refl, sym, ap, _∙_, subst}
 use mathlib.Core.Bool.{true, false, Bool, cond}
@@ -9,15 +9,15 @@ use Prim.Native.Nat.{ℕ, _+_, _-_, _≤_, _<_}
 use native.Mathlib.Omega.{arith}
 use borrow.Author.Tests.{lt-ltb, le-ltb, not-false, eq-eqb}
 use lib.ListN.{length}
-use Rattle.laws.specs.Checks.{firstOf}
+use Rattle.laws.specs.Checks.{firstOf, onlyIf}
 use Rattle.laws.specs.TableLaws.{table-at}
 use Rattle.laws.specs.TestLaws.{lt-or-le, not-is, all-elim, all-intro}
 use Rattle.address.specs.declared.Span.{Span}
 use Rattle.address.specs.Address.{boundaryOf}
 use Rattle.address.specs.Span.{noSpan, spanNo, Holds}
 use Rattle.answer.specs.Answer.{isLoad, numberOf}
-use Rattle.answer.specs.ChainLaws.{applies-front, applies-past, chain-append, or-else-second, none-given}
-use Rattle.answer.specs.Chain.{appliesNo}
+use Rattle.answer.specs.ChainLaws.{numbers, distinct, appliesFor, applies-other, applies-front, chain-append, or-else-second, none-given}
+use Rattle.answer.specs.Chain.{checkOrder, placeIn, Before}
 use Rattle.answer.specs.declared.Answer.the-variants.{Load, NoRoomForModule, NoRoomForBlock}
 use Rattle.submission.specs.declared.Module.{Module}
 use Rattle.submission.specs.Rules.{submissionChecks}
@@ -25,9 +25,11 @@ use Rattle.submission.specs.Layout.{layoutOf}
 use Rattle.submission.specs.Format.{moduleCount, dataLength}
 use Rattle.submission.specs.FormatLaws.{layout-count, module-at}
 use Rattle.command_line.specs.CommandLine.{operatorChecks}
-use Rattle.image.specs.Judged.{headerChecks, loadChecks, imageChecks}
-use Rattle.image.specs.JudgedLaws.{good-kernel, calculated}
-use Rattle.image.specs.Kernel.{extentNo}
+use Rattle.kernel.specs.Checks.{entryChecks}
+use Rattle.elf.specs.Checks.{elfChecks}
+use Rattle.image.specs.Judged.{headerChecks, loadChecks, fieldChecks, kindChecks, imageChecks}
+use Rattle.image.specs.JudgedLaws.{good-kernel, announced, calculated, listed}
+use Rattle.kernel.specs.Kernel.{extentNo}
 use Rattle.memory_map.specs.Map.{mapChecks}
 use Rattle.usable.specs.UsableLaws.{usable-bytes}
 use Rattle.board.specs.Window.{windowChecks}
@@ -47,9 +49,9 @@ use Rattle.decision.specs.Decision.{lentChecks, checks, placedIn, decisionOf, p
 use Rattle.decision.specs.DecisionLaws.{lent-refuses, lent-passed, prepared, LentPassed}
 use Rattle.decision.specs.PlacedLaws.{load-in-order}
 use Rattle.decision.specs.StageLaws.{kernel-refuses}
-use Rattle.loader.specs.LoadLaws.{Loads, module-span, block-span, span-apart, one-segment, loads, all-done, modules-past}
+use Rattle.loader.specs.LoadLaws.{Loads, module-span, block-span, span-apart, loads, all-done, modules-past}
 use Rattle.theorems.specs.SizeLaws.{block-size}
-use Rattle.theorems.specs.AnsweredLaws.{holdsIn, decided-answer, number-load, load-plan}
+use Rattle.theorems.specs.AnsweredLaws.{holdsIn, numbers-are, decided-answer, number-load, load-plan}
 use Rattle.theorems.specs.Promises.{Open, blockSize, Planned, Placing, OnMemory}
 
 -- what the checks of the room answer
@@ -134,24 +136,30 @@ module _ (x : Lent) where
         λ h. all-intro (extentOpen b k) 0 (k .count) (λ i l m. all-open-is b (extentNo k i .start .0) (extentNo k i .end .0) .1 (λ a u v. open-in a .1 (h i (omega arith) a (u, v)))),
       )
 
--- none of 1 to 14 holds
-module _ (x : Lent) (r : (k : ℕ) → 1 ≤ k → k < 15 → holdsIn x k ≡ false) where
-  lent-count : length (lentChecks x) ≡ 14
-  unfolding lentChecks submissionChecks operatorChecks windowChecks mapChecks headerChecks loadChecks imageChecks
+-- none before 15 holds
+module _ (x : Lent) (r : (k : ℕ) → Before k 15 → holdsIn x k ≡ false) where
+  lent-numbers : distinct (numbers (lentChecks x)) ≡ true
+  unfolding numbers distinct placeIn onlyIf lentChecks submissionChecks operatorChecks windowChecks mapChecks headerChecks loadChecks fieldChecks kindChecks entryChecks elfChecks imageChecks
+  lent-numbers = refl
+
+  -- so many checks come before 15
+  lent-count : length (lentChecks x) ≡ placeIn checkOrder 15
+  unfolding placeIn onlyIf lentChecks submissionChecks operatorChecks windowChecks mapChecks headerChecks loadChecks fieldChecks kindChecks entryChecks elfChecks imageChecks
   lent-count = refl
 
-  lent-none : (k : ℕ) → appliesNo (lentChecks x) k ≡ false
+  lent-none : (k : ℕ) → appliesFor (lentChecks x) k ≡ false
   unfolding checks
   lent-none k =
       ⊎-elim
-      (λ (l : k < 14).
-      let e : k + 1 - 1 ≡ k = omega arith in
-      sym (applies-front (lentChecks x) (memoryChecks (boardIn x) (kernelIn x) (layoutIn x) (blockLengthIn x)) k (omega (arith, lent-count))) ∙ (rw e at (r (k + 1) (omega arith) (omega arith))))
-      (λ (l : 14 ≤ k). applies-past (lentChecks x) k (omega (arith, lent-count)))
-      (lt-or-le k 14)
+      (λ (l : placeIn (numbers (lentChecks x)) k < length (lentChecks x)).
+      let f = applies-front (lentChecks x) (memoryChecks (boardIn x) (kernelIn x) (layoutIn x) (blockLengthIn x)) k l in
+      let p : placeIn checkOrder k ≡ placeIn (numbers (lentChecks x)) k = ap (λ (ns : List ℕ). placeIn ns k) (sym (numbers-are x)) ∙ f .1 in
+      sym (f .0) ∙ r k (omega (arith, lent-count)))
+      (λ (l : length (lentChecks x) ≤ placeIn (numbers (lentChecks x)) k). applies-other (lentChecks x) k l)
+      (lt-or-le (placeIn (numbers (lentChecks x)) k) (length (lentChecks x)))
 
   lent-load : isLoad (firstOf (lentChecks x) Load) ≡ true
-  lent-load = eq-eqb _ _ (none-given (lentChecks x) lent-none)
+  lent-load = eq-eqb _ _ (none-given (lentChecks x) lent-numbers lent-none)
 
   known : LentPassed x
   known = lent-passed x lent-load
@@ -159,7 +167,7 @@ module _ (x : Lent) (r : (k : ℕ) → 1 ≤ k → k < 15 → holdsIn x k ≡ fa
   -- the places, where 15 does not hold either
   module _ (r15 : holdsIn x 15 ≡ false) where
     opened : kernelOpen (boardIn x) (kernelIn x) ≡ true
-    unfolding checks lentChecks submissionChecks operatorChecks windowChecks mapChecks headerChecks loadChecks imageChecks kernelChecks roomChecks
+    unfolding appliesFor onlyIf checks lentChecks submissionChecks operatorChecks windowChecks mapChecks headerChecks loadChecks fieldChecks kindChecks entryChecks elfChecks imageChecks kernelChecks roomChecks
     opened = not-false _ r15
 
     kernel-load : isLoad (firstOf (kernelChecks (boardIn x) (kernelIn x)) Load) ≡ true
@@ -225,8 +233,9 @@ module _ (x : Lent) (r : (k : ℕ) → 1 ≤ k → k < 15 → holdsIn x k ≡ fa
           block = block-span x h;
           eax = refl;
           ebx = refl;
-          entry = (k .low, k .high);
-          bss = λ i l. let z : i ≡ 0 = omega (arith, one-segment x h) in rw z (omega (arith, k .low, k .high), k .end);
+          entered = k .entered .0;
+          entry = (k .entered .1, k .entered .2, k .entered .3);
+          bss = λ i l. let s = k .segments i l in (s .loaded, s .end, s .some);
           apart = span-apart x h;
         }
 
@@ -260,11 +269,13 @@ module _ (x : Lent) (r : (k : ℕ) → 1 ≤ k → k < 15 → holdsIn x k ≡ fa
         }
 
   pub on-memory : OnMemory x (decisionOf x) (holdsIn x)
-  unfolding checks lentChecks submissionChecks operatorChecks windowChecks mapChecks headerChecks loadChecks imageChecks kernelChecks roomChecks layoutOf
+  unfolding appliesFor onlyIf checks lentChecks submissionChecks operatorChecks windowChecks mapChecks headerChecks loadChecks fieldChecks kindChecks entryChecks elfChecks imageChecks kernelChecks roomChecks layoutOf
   on-memory =
       record {
         kernel = kernelIn x;
+        announced = announced (imageIn x) (known .image);
         calculated = calculated (imageIn x) (known .image);
+        tabled = listed (imageIn x) (known .image);
         c15 = not-is (kernelOpen (boardIn x) (kernelIn x)) (kernel-open-is x);
         placing = places;
       }

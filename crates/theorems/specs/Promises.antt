@@ -1,7 +1,8 @@
 -- What is promised of every call, in propositions for all addresses. Start here.
---     Conditions, OfHeader, OfLoad    the condition of each refusal
+--     Conditions, OfHeader, OfFields, OfLoad, OfElf
+--                                     the condition of each refusal
 --     Answered                        1. the first condition that holds gives the number; a refusal changes nothing
---     OnMemory                        where none of 1 to 14 holds: the kernel, 15, and the places of the modules and of the information block
+--     OnMemory                        where none before 15 holds: the kernel, 15, and the places of the modules and of the information block
 --     Placing                         3. each at its lowest place, and "no room" exactly where there is none
 --     Planned                         the plan of a load
 --     Apart                           nothing of a load shares a byte
@@ -20,16 +21,20 @@ use Rattle.number.specs.Number.{numberAt}
 use Rattle.address.specs.Span.{noSpan, spanNo, Holds}
 use Rattle.address.specs.declared.Span.{Span}
 use Rattle.answer.specs.Answer.{numberOf, itemOf}
+use Rattle.answer.specs.Chain.{checkOrder, placeIn, Before}
 use Rattle.answer.specs.declared.Answer.the-variants.{NoRoomForModule, NoRoomForBlock}
 use Rattle.submission.specs.Format.{moduleCount, dataLength, stringLength, dataStart, imageBytes, stringBytes}
 use Rattle.submission.specs.GoodSubmission.{NoZero, Marked, GoodSubmission}
 use Rattle.command_line.specs.LineInForce.{lineInForce}
 use Rattle.header.specs.HeaderAt.{HeaderAt}
+use Rattle.elf.specs.Elf.{elfHeader, programHeaderNo}
+use Rattle.elf.specs.GoodElf.{SegmentAt, GoodElf, GoodHeader, Takes}
+use Rattle.elf.specs.Tabled.{Tabled}
 use Rattle.image.specs.declared.load.AddressFields.{AddressFields}
-use Rattle.image.specs.declared.Kernel.{Kernel}
+use Rattle.kernel.specs.declared.Kernel.{Kernel}
 use Rattle.image.specs.Load.{fieldsAt, loadOffset, loadLength}
-use Rattle.image.specs.Kernel.{segmentNo, extentNo}
-use Rattle.image.specs.Calculated.{Calculated}
+use Rattle.kernel.specs.Kernel.{segmentNo, extentNo}
+use Rattle.image.specs.Calculated.{Announced, Calculated}
 use Rattle.memory_map.specs.GoodMap.{GoodMap}
 use Rattle.usable.specs.UsableAddress.{Usable, Stretch}
 use Rattle.placement.specs.Placing.{Suits, Stands}
@@ -44,20 +49,38 @@ pub record Open (x : Lent) (a : ℕ) : Type 0 where
   pub usable : Usable (x .map) a
   pub window : (x .first ≤ a) × (a < x .first + x .size)
 
--- the conditions on the load, 11 to 14: h are the address fields, `len` bytes go from `offset` on, n is the image's length
+-- the conditions on the load by address fields, 11 to 14: h are the address fields, `len` bytes go from `offset` on, n is the image's length
 pub record OfLoad (h : AddressFields) (offset len n : ℕ) (c : ℕ → Bool) : Type 0 where
   pub c11 : (c 11 ≡ true) ↔ ((h .«load_end_addr» .0 ≡ 0) × (n ≤ offset))
   pub c12 : (c 12 ≡ true) ↔ (((h .«load_end_addr» .0 ≡ 0 → ⊥) × (h .«load_end_addr» .0 < h .«load_addr» .0)) ⊎ (n < offset + len))
   pub c13 : (c 13 ≡ true) ↔ ((h .«bss_end_addr» .0 ≡ 0 → ⊥) × (h .«bss_end_addr» .0 < h .«load_addr» .0 + len))
   pub c14 : (c 14 ≡ true) ↔ ((h .«entry_addr» .0 < h .«load_addr» .0) ⊎ (h .«load_addr» .0 + len ≤ h .«entry_addr» .0))
 
--- the conditions on the header at o, 7 to 10, and on the load that it asks for
-pub record OfHeader (image : List ℕ) (o : ℕ) (c : ℕ → Bool) : Type 0 where
-  pub c7 : (c 7 ≡ true) ↔ (numberAt 4 image (o + 4) / 2 ^ 2 % 2 ^ 14 ≡ 0 → ⊥)
-  pub c8 : (c 8 ≡ true) ↔ (numberAt 4 image (o + 4) / 2 ^ 16 % 2 ≡ 0)
+-- the conditions on the address fields of the header at o, 9 and 10, and on the load that they ask for; 18 to 20 do not exist
+pub record OfFields (image : List ℕ) (o : ℕ) (c : ℕ → Bool) : Type 0 where
   pub c9 : (c 9 ≡ true) ↔ ((8192 < o + 32) ⊎ (length image < o + 32))
   pub c10 : (c 10 ≡ true) ↔ ((numberAt 4 image (o + 12) < numberAt 4 image (o + 16)) ⊎ (o < numberAt 4 image (o + 12) - numberAt 4 image (o + 16)))
   pub load : OfLoad (fieldsAt image o) (loadOffset (fieldsAt image o) o) (loadLength (fieldsAt image o) (loadOffset (fieldsAt image o) o) (length image)) (length image) c
+  pub no-elf : (k : ℕ) → 18 ≤ k → k ≤ 20 → c k ≡ false
+
+-- the conditions on an ELF image, 18 to 20 and 14; 9 to 13 do not exist
+pub record OfElf (image : List ℕ) (c : ℕ → Bool) : Type 0 where
+  pub c18 : (c 18 ≡ true) ↔ (GoodElf image → ⊥)
+  pub c19 : (c 19 ≡ true) ↔ (((i : ℕ) → i < elfHeader image .«e_phnum» → programHeaderNo image i .«p_type» ≡ 1 → GoodHeader (programHeaderNo image i) (length image)) → ⊥)
+  pub c20 : (c 20 ≡ true) ↔ (((i j : ℕ) → i < j → SegmentAt image i → SegmentAt image j → (a : ℕ) → Takes (programHeaderNo image i) a → Takes (programHeaderNo image j) a → ⊥) → ⊥)
+  pub c14 : (c 14 ≡ true) ↔ ((i : ℕ) → SegmentAt image i → (programHeaderNo image i .«p_paddr» .0 ≤ elfHeader image .«e_entry» .0) × (elfHeader image .«e_entry» .0 < programHeaderNo image i .«p_paddr» .0 + programHeaderNo image i .«p_filesz») → ⊥)
+  pub no-fields : (k : ℕ) → 9 ≤ k → k ≤ 13 → c k ≡ false
+
+-- flag bit 16 of the header at o
+abbrev pub bit16 : List ℕ → ℕ → ℕ
+bit16 image o = numberAt 4 image (o + 4) / 2 ^ 16 % 2
+
+-- the conditions on the header at o, 7 and 8, and on what flag bit 16 chooses; an ELF image begins 7F 45 4C 46
+pub record OfHeader (image : List ℕ) (o : ℕ) (c : ℕ → Bool) : Type 0 where
+  pub c7 : (c 7 ≡ true) ↔ (numberAt 4 image (o + 4) / 2 ^ 2 % 2 ^ 14 ≡ 0 → ⊥)
+  pub c8 : (c 8 ≡ true) ↔ ((bit16 image o ≡ 0) × (numberAt 4 image 0 ≡ 0x464C457F → ⊥))
+  pub fields : bit16 image o ≡ 1 → OfFields image o c
+  pub elf : bit16 image o ≡ 0 → OfElf image c
 
 -- c k is whether the condition of the refusal k holds; those from 7 on speak of the lowest header
 pub record Conditions (x : Lent) (c : ℕ → Bool) : Type 0 where
@@ -71,10 +94,12 @@ pub record Conditions (x : Lent) (c : ℕ → Bool) : Type 0 where
 
 -- 1. the answer
 pub record Answered (d : Decision) (w v : List ℕ) (c : ℕ → Bool) : Type 0 where
-  -- the number k is given exactly where its condition is the first that holds
-  pub refusal : (k : ℕ) → 1 ≤ k → (numberOf (d .answer) ≡ k) ↔ ((c k ≡ true) × ((j : ℕ) → 1 ≤ j → j < k → c j ≡ false))
+  -- the number k is given exactly where its condition holds, and none that is checked before it
+  pub refusal : (k : ℕ) → 1 ≤ k → (numberOf (d .answer) ≡ k) ↔ ((c k ≡ true) × ((j : ℕ) → Before j k → c j ≡ false))
   -- 0 is given exactly where none holds
-  pub load : (numberOf (d .answer) ≡ 0) ↔ ((k : ℕ) → 1 ≤ k → c k ≡ false)
+  pub load : (numberOf (d .answer) ≡ 0) ↔ ((k : ℕ) → c k ≡ false)
+  -- a number that is not in the order of checks has no condition, so that it is not given
+  pub other : (k : ℕ) → length checkOrder ≤ placeIn checkOrder k → c k ≡ false
   -- every answer but 16 has the item 0
   pub item : (numberOf (d .answer) ≡ 16 → ⊥) → itemOf (d .answer) ≡ 0
   -- a refusal has a plan of zeros, and leaves the window as it was
@@ -106,8 +131,10 @@ pub record Planned (x : Lent) (k : Kernel) (spans : List Span) (q : Plan) : Type
   pub block : q .block ≡ spanNo spans (k .count + moduleCount (x .submission))
   pub eax : q .eax ≡ 0x2BADB002
   pub ebx : q .ebx ≡ q .block .start .0
-  pub entry : (segmentNo k 0 .start .0 ≤ k .entry .0) × (k .entry .0 < segmentNo k 0 .«load_end» .0)
-  pub bss : (i : ℕ) → i < k .count → (segmentNo k i .start .0 < segmentNo k i .«load_end» .0) × (segmentNo k i .«load_end» .0 ≤ segmentNo k i .«extent_end» .0)
+  -- the entry lies in the load bytes of this segment
+  pub entered : ℕ
+  pub entry : (entered < k .count) × (segmentNo k entered .start .0 ≤ k .entry .0) × (k .entry .0 < segmentNo k entered .«load_end» .0)
+  pub bss : (i : ℕ) → i < k .count → (segmentNo k i .start .0 ≤ segmentNo k i .«load_end» .0) × (segmentNo k i .«load_end» .0 ≤ segmentNo k i .«extent_end» .0) × (segmentNo k i .start .0 < segmentNo k i .«extent_end» .0)
   pub apart : Apart spans (k .count + (moduleCount (x .submission) + 1))
 
 -- 3. the places: `done` of the modules from index 0 and of the block behind them found room
@@ -128,10 +155,13 @@ pub record Placing (x : Lent) (k : Kernel) (d : Decision) : Type 0 where
   -- in a load all did, and this is its plan
   pub load : numberOf (d .answer) ≡ 0 → (done ≡ moduleCount (x .submission) + 1) × Planned x k spans (d .plan)
 
--- where none of 1 to 14 holds, the kernel is calculated; 15 is that not all of its extents are open
+-- where none before 15 holds, the kernel is the one that the header asks for, by address fields or by the table of an ELF
+-- image; 15 is that not all of its extents are open
 pub record OnMemory (x : Lent) (d : Decision) (c : ℕ → Bool) : Type 0 where
   pub kernel : Kernel
-  pub calculated : Calculated (imageBytes (x .submission)) kernel
+  pub announced : Announced (imageBytes (x .submission)) kernel
+  pub calculated : bit16 (imageBytes (x .submission)) (kernel .header .0) ≡ 1 → Calculated (imageBytes (x .submission)) kernel
+  pub tabled : bit16 (imageBytes (x .submission)) (kernel .header .0) ≡ 0 → Tabled (imageBytes (x .submission)) kernel
   pub c15 : (c 15 ≡ true) ↔ (((i : ℕ) → i < kernel .count → (a : ℕ) → Holds (extentNo kernel i) a → Open x a) → ⊥)
   pub placing : c 15 ≡ false → Placing x kernel d
 
@@ -200,6 +230,6 @@ pub record Promised (x : Lent) (w : List ℕ) (d : Decision) (v : List ℕ) : Ty
   pub holds : ℕ → Bool
   pub conditions : Conditions x holds
   pub answered : Answered d w v holds
-  pub memory : ((k : ℕ) → 1 ≤ k → k < 15 → holds k ≡ false) → OnMemory x d holds
+  pub memory : ((k : ℕ) → Before k 15 → holds k ≡ false) → OnMemory x d holds
   pub written : numberOf (d .answer) ≡ 0 → Written x (d .plan) w v
   pub readBack : numberOf (d .answer) ≡ 0 → ReadBack x (d .plan) v

@@ -23,8 +23,9 @@ use Rattle.submission.specs.Format.{moduleCount}
 use Rattle.submission.specs.Layout.{bytesOf, moduleNo, layoutOf}
 use Rattle.submission.specs.FormatLaws.{layout-count, module-at, length-bytesOf, bytesOf-at}
 use Rattle.submission.specs.RuleLaws.{data-inside}
-use Rattle.image.specs.Kernel.{segmentNo, extentNo}
-use Rattle.image.specs.declared.Segment.{Segment}
+use Rattle.kernel.specs.Kernel.{segmentNo}
+use Rattle.kernel.specs.KernelLaws.{GoodSegment}
+use Rattle.kernel.specs.declared.Segment.{Segment}
 use Rattle.image.specs.JudgedLaws.{good-kernel}
 use Rattle.decision.specs.Lent.{Lent}
 use Rattle.decision.specs.Read.{layoutIn, imageIn, kernelIn, lineIn}
@@ -32,9 +33,41 @@ use Rattle.decision.specs.Decided.{planOf}
 use Rattle.decision.specs.Decision.{answerOf, planIn}
 use Rattle.block.specs.WritingLaws.{length-load}
 use Rattle.loader.specs.Memory.{segmentWrite, segmentWrites, moduleWrite, moduleWrites, contentsIn, blockWrite, writesOf, memoryAfter}
-use Rattle.loader.specs.LoadLaws.{Loads, spanIn, countIn, span-inside, span-apart, kernel-span, one-segment, module-span, block-span, module-span-length, block-span-length}
+use Rattle.loader.specs.LoadLaws.{Loads, spanIn, countIn, span-inside, span-apart, kernel-span, module-span, block-span, module-span-length, block-span-length}
 use Rattle.loader.specs.WriteLaws.{strings-in}
 use Rattle.theorems.specs.Promises.{Elsewhere, byteAt, Written}
+
+-- the bytes that a segment writes: its load bytes from the image, and zeros
+abbrev loadPart : Segment → Part
+loadPart s = record { at = s .offset .0; len = s .«load_end» .0 - s .start .0 }
+
+abbrev segmentBytes : List ℕ → Segment → List ℕ
+segmentBytes image s = bytesOf image (loadPart s) ++ zeros (s .«extent_end» .0 - s .«load_end» .0)
+
+module _ (image : List ℕ) (s : Segment) (g : GoodSegment image s) where
+  length-loaded : length (bytesOf image (loadPart s)) ≡ s .«load_end» .0 - s .start .0
+  length-loaded =
+      ⊎-elim
+      (λ (u : 0 < s .«load_end» .0 - s .start .0). length-bytesOf image (loadPart s) (omega (arith, g .inside (s .«load_end» .0 - s .start .0 - 1) (omega arith))))
+      (λ (u : s .«load_end» .0 - s .start .0 ≤ 0). let z : s .«load_end» .0 - s .start .0 ≡ 0 = omega arith in rw z refl)
+      (lt-or-le 0 (s .«load_end» .0 - s .start .0))
+
+  length-segment : length (segmentBytes image s) ≡ s .«extent_end» .0 - s .start .0
+  length-segment =
+      length-append (bytesOf image (loadPart s)) (zeros (s .«extent_end» .0 - s .«load_end» .0))
+      ∙ omega (arith, length-loaded, length-replicate {A = ℕ} (s .«extent_end» .0 - s .«load_end» .0) 0, g .loaded, g .end)
+
+  segment-loaded : (d : ℕ) → d < s .«load_end» .0 - s .start .0 → getD (segmentBytes image s) d 0 ≡ getD image (s .offset .0 + d) 0
+  segment-loaded d l =
+      List·getD-append (bytesOf image (loadPart s)) (zeros (s .«extent_end» .0 - s .«load_end» .0)) 0 d (omega (arith, length-loaded))
+      ∙ bytesOf-at image (loadPart s) d l
+
+  segment-zero : (d : ℕ) → s .«load_end» .0 - s .start .0 ≤ d → d < s .«extent_end» .0 - s .start .0 → getD (segmentBytes image s) d 0 ≡ 0
+  segment-zero d l m =
+      let e : d ≡ length (bytesOf image (loadPart s)) + (d - (s .«load_end» .0 - s .start .0)) = omega (arith, length-loaded) in
+      ap (λ (k : ℕ). getD (segmentBytes image s) k 0) e
+      ∙ getD-append-add (bytesOf image (loadPart s)) (zeros (s .«extent_end» .0 - s .«load_end» .0)) (d - (s .«load_end» .0 - s .start .0)) 0
+      ∙ getD-replicate (s .«extent_end» .0 - s .«load_end» .0) (d - (s .«load_end» .0 - s .start .0)) 0 0 (omega (arith, g .loaded, g .end))
 
 module _ (x : Lent) (h : Loads x) where
   -- the write of each span, in the order of the spans
@@ -78,22 +111,12 @@ module _ (x : Lent) (h : Loads x) where
     at : writeNo (writesOf x) j .at ≡ spanIn x j .start .0 - x .first
     size : length (writeNo (writesOf x) j .bytes) ≡ spanIn x j .end .0 - spanIn x j .start .0
 
-  segment-size : length (segmentWrite (x .first) (imageIn x) (kernelIn x) 0 .bytes) ≡ segmentNo (kernelIn x) 0 .«extent_end» .0 - segmentNo (kernelIn x) 0 .start .0
-  unfolding segmentWrite
-  segment-size =
-      let k = good-kernel (imageIn x) (h .passed .image) in
-      let s = segmentNo (kernelIn x) 0 in
-      let p : Part = record { at = s .offset .0; len = s .«load_end» .0 - s .start .0 } in
-      length-append (bytesOf (imageIn x) p) (zeros (s .«extent_end» .0 - s .«load_end» .0))
-      ∙ omega (arith, length-bytesOf (imageIn x) p (k .inside), length-replicate {A = ℕ} (s .«extent_end» .0 - s .«load_end» .0) 0, k .low, k .high, k .end)
-
   segment-of : (j : ℕ) → j < kernelIn x .count → WriteOf j
   unfolding segmentWrite
   segment-of j u =
-      let z : j ≡ 0 = omega (arith, one-segment x h) in
-      let s : spanIn x j ≡ extentNo (kernelIn x) 0 = kernel-span x h j u ∙ ap (extentNo (kernelIn x)) z in
-      let e : writeNo (writesOf x) j ≡ segmentWrite (x .first) (imageIn x) (kernelIn x) 0 = segment-write j u ∙ ap (segmentWrite (x .first) (imageIn x) (kernelIn x)) z in
-      record { at = rw (e, s) refl; size = rw (e, s) segment-size }
+      let e = kernel-span x h j u in
+      let g = good-kernel (imageIn x) (h .passed .image) .segments j u in
+      record { at = rw (segment-write j u, e) refl; size = rw (segment-write j u, e) (length-segment (imageIn x) (segmentNo (kernelIn x) j) g) }
 
   module-of : (i : ℕ) → i < layoutIn x .count → WriteOf (kernelIn x .count + i)
   unfolding moduleWrite
@@ -166,52 +189,23 @@ module _ (x : Lent) (h : Loads x) where
         ap (λ (v : List ℕ). getD v (a - x .first) 0) memory-is
         ∙ written-outside w (writesOf x) (a - x .first) 0 (λ j l c. m j (omega (arith, length-writes)) (holds-of j (omega (arith, length-writes)) a u c))
 
-    -- the kernel has one segment, whose load bytes lie inside the image
+    -- a segment's bytes: its load bytes, and zeros behind them
     module _ (i : ℕ) (u : i < kernelIn x .count) (a : ℕ) where
-      s : Segment
-      s = segmentNo (kernelIn x) i
-
-      p : Part
-      unfolding s
-      p = record { at = s .offset .0; len = s .«load_end» .0 - s .start .0 }
-
-      zero-index : i ≡ 0
-      zero-index = omega (arith, one-segment x h)
-
-      ordered : (s .start .0 ≤ s .«load_end» .0) × (s .«load_end» .0 ≤ s .«extent_end» .0)
-      unfolding s
-      ordered =
-          let k = good-kernel (imageIn x) (h .passed .image) in
-          rw zero-index (omega (arith, k .low, k .high), k .end)
-
-      in-image : segmentNo (kernelIn x) i .offset .0 + (segmentNo (kernelIn x) i .«load_end» .0 - segmentNo (kernelIn x) i .start .0) ≤ length (imageIn x)
-      in-image = rw zero-index (good-kernel (imageIn x) (h .passed .image) .inside)
-
-      length-part : length (bytesOf (imageIn x) p) ≡ p .len
-      unfolding s p
-      length-part = length-bytesOf (imageIn x) p in-image
-
-      in-span : s .start .0 ≤ a → a < s .«extent_end» .0 → byteAt x (memoryAfter x w) a ≡ getD (bytesOf (imageIn x) p ++ zeros (s .«extent_end» .0 - s .«load_end» .0)) (a - s .start .0) 0
-      unfolding s p segmentWrite
+      in-span : segmentNo (kernelIn x) i .start .0 ≤ a → a < segmentNo (kernelIn x) i .«extent_end» .0 → byteAt x (memoryAfter x w) a ≡ getD (segmentBytes (imageIn x) (segmentNo (kernelIn x) i)) (a - segmentNo (kernelIn x) i .start .0) 0
+      unfolding segmentWrite
       in-span l m =
           let e = kernel-span x h i u in
           byte-in i (omega arith) a (rw e (l, m)) ∙ rw (segment-write i u, e) refl
 
-      loaded-byte : s .start .0 ≤ a → a < s .«load_end» .0 → byteAt x (memoryAfter x w) a ≡ getD (imageIn x) (s .offset .0 + (a - s .start .0)) 0
-      unfolding s p
+      loaded-byte : segmentNo (kernelIn x) i .start .0 ≤ a → a < segmentNo (kernelIn x) i .«load_end» .0 → byteAt x (memoryAfter x w) a ≡ getD (imageIn x) (segmentNo (kernelIn x) i .offset .0 + (a - segmentNo (kernelIn x) i .start .0)) 0
       loaded-byte l m =
-          in-span l (omega (arith, ordered .1))
-          ∙ List·getD-append (bytesOf (imageIn x) p) (zeros (s .«extent_end» .0 - s .«load_end» .0)) 0 (a - s .start .0) (omega (arith, length-part))
-          ∙ bytesOf-at (imageIn x) p (a - s .start .0) (omega arith)
+          let g = good-kernel (imageIn x) (h .passed .image) .segments i u in
+          in-span l (omega (arith, g .end)) ∙ segment-loaded (imageIn x) (segmentNo (kernelIn x) i) g (a - segmentNo (kernelIn x) i .start .0) (omega arith)
 
-      bss-byte : s .«load_end» .0 ≤ a → a < s .«extent_end» .0 → byteAt x (memoryAfter x w) a ≡ 0
-      unfolding s p
+      bss-byte : segmentNo (kernelIn x) i .«load_end» .0 ≤ a → a < segmentNo (kernelIn x) i .«extent_end» .0 → byteAt x (memoryAfter x w) a ≡ 0
       bss-byte l m =
-          let e : a - s .start .0 ≡ length (bytesOf (imageIn x) p) + (a - s .«load_end» .0) = omega (arith, length-part, ordered .0) in
-          in-span (omega (arith, ordered .0)) m
-          ∙ ap (λ (k : ℕ). getD (bytesOf (imageIn x) p ++ zeros (s .«extent_end» .0 - s .«load_end» .0)) k 0) e
-          ∙ getD-append-add (bytesOf (imageIn x) p) (zeros (s .«extent_end» .0 - s .«load_end» .0)) (a - s .«load_end» .0) 0
-          ∙ getD-replicate (s .«extent_end» .0 - s .«load_end» .0) (a - s .«load_end» .0) 0 0 (omega arith)
+          let g = good-kernel (imageIn x) (h .passed .image) .segments i u in
+          in-span (omega (arith, g .loaded)) m ∙ segment-zero (imageIn x) (segmentNo (kernelIn x) i) g (a - segmentNo (kernelIn x) i .start .0) (omega (arith, g .loaded)) (omega (arith, g .loaded))
 
     module-byte : (i : ℕ) → i < layoutIn x .count → (a : ℕ) → Holds (spanNo (planIn x .modules) i) a → byteAt x (memoryAfter x w) a ≡ getD (x .submission) (moduleNo (layoutIn x) i .«data» .at + (a - spanNo (planIn x .modules) i .start .0)) 0
     unfolding moduleWrite
@@ -238,7 +232,7 @@ module _ (x : Lent) (h : Loads x) where
         (lt-or-le j (kernelIn x .count)))
 
     pub written-bytes : Written x (planIn x) w (memoryAfter x w)
-    unfolding s planOf layoutOf
+    unfolding planOf layoutOf
     written-bytes =
         record {
           size = ap length memory-is ∙ length-written w (writesOf x);

@@ -11,7 +11,7 @@ ghost use Rattle.usable.specs.MapEdge.{mapEdge};
 pub mod sizes;
 
 // The type of a pair of usable memory.
-const RAM: u32 = 1;
+const RAM: u64 = 1;
 
 // Usable addresses are below this.
 pub(crate) const ADDRESS_SPACE: u64 = 0x100000000;

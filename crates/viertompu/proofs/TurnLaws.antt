@@ -12,8 +12,8 @@ use Rattle.buffer.specs.Patched.{patched, zeros}
 use Rattle.buffer.specs.PatchedLaws.{patched-append, patched-split}
 use Rattle.address.specs.declared.Span.{Span}
 use Rattle.submission.specs.Format.{maxModules}
-use Rattle.image.specs.declared.Kernel.{Kernel}
-use Rattle.image.specs.Kernel.{maxSegments}
+use Rattle.kernel.specs.declared.Kernel.{Kernel}
+use Rattle.kernel.specs.Kernel.{maxSegments}
 use Rattle.decision.specs.declared.Decision.{Decision}
 use Rattle.viertompu.specs.Joined.{joined}
 use Rattle.viertompu.specs.JoinedLaws.{stored, length-joined, joined-written}

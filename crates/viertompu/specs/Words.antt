@@ -13,8 +13,8 @@ use Rattle.address.specs.declared.Span.{Span}
 use Rattle.address.specs.Span.{spanNo}
 use Rattle.answer.specs.Answer.{numberOf, itemOf}
 use Rattle.submission.specs.Format.{maxModules}
-use Rattle.image.specs.declared.Kernel.{Kernel}
-use Rattle.image.specs.Kernel.{maxSegments, segmentNo}
+use Rattle.kernel.specs.declared.Kernel.{Kernel}
+use Rattle.kernel.specs.Kernel.{maxSegments, segmentNo}
 use Rattle.decision.specs.declared.Decision.{Decision}
 use Rattle.viertompu.specs.Joined.{joined}
 

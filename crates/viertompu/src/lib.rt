@@ -1,8 +1,8 @@
 // The C interface: a load, and its plan as words.
 use address::Span;
 use decision::Decision;
-use image::Kernel;
-use image::MAX_SEGMENTS;
+use kernel::Kernel;
+use kernel::MAX_SEGMENTS;
 use submission::MAX_MODULES;
 ghost use mathlib.Core.Path.{_≡_};
 ghost use lib.ListN.{length};

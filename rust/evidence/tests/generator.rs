@@ -1,8 +1,10 @@
 //! The generator itself: a case depends on its seed and index alone, and its window holds no zero.
 
 use evidence::compare::printed::{printed, MAX_INPUT};
+use evidence::input::case::Case;
 use evidence::input::generate;
 use evidence::loaders::second;
+use evidence::rules::limits::ELF_MARK;
 use evidence::rules::reachable_numbers;
 
 #[test]
@@ -21,6 +23,13 @@ fn windows_hold_no_zero() {
     for index in 0..2000 {
         assert!(!generate::case(3, index).window.contains(&0));
     }
+}
+
+#[test]
+fn about_a_third_of_the_images_are_elf() {
+    let begins = |case: &Case| case.submission.windows(4).take(200).any(|w| w == ELF_MARK);
+    let count = (0..3000).map(|index| generate::case(1, index)).filter(|c| begins(c)).count();
+    assert!((900..1200).contains(&count), "{count} of 3000");
 }
 
 #[test]

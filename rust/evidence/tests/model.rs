@@ -1,17 +1,25 @@
 //! The address-by-address model: each rule of its checks can be the only one broken.
 
-use evidence::input::bench_cases::b1;
+use evidence::input::bench_cases::{b1, e1};
 use evidence::input::case::Case;
 use evidence::input::draft::{overlay, submission, Header, Module};
+use evidence::input::elf::{Elf, ProgramHeader};
 use evidence::input::pair::{map_bytes, Pair};
 use evidence::input::review_board;
 use evidence::loaders::model::read;
 use evidence::loaders::{run, second};
 use evidence::rules::limits::{ADDRESS_FIELDS, RAM};
+use evidence::rules::offsets::elf_header::*;
 use evidence::rules::offsets::header::{BSS_END_ADDR, ENTRY_ADDR, LOAD_ADDR, LOAD_END_ADDR};
+use evidence::rules::offsets::program_header::*;
 
-/// B1's image begins here in its submission.
+/// B1's image begins here in its submission, and E1's too.
 const B1_IMAGE: usize = 20;
+/// E1's image ends here, and its module begins.
+const E1_IMAGE_END: usize = 192;
+/// Where the program headers of E1's two segments stand in its image.
+const CODE: usize = 52;
+const DATA: usize = 116;
 
 /// The number of the answer, 0 where the model places everything.
 fn number(case: &Case) -> u32 {
@@ -36,6 +44,36 @@ fn with(at: usize, bytes: &[u8]) -> Case {
 /// B1 with another field in its header.
 fn with_field(field: usize, value: u32) -> Case {
     with(B1_IMAGE + field, &value.to_le_bytes())
+}
+
+/// E1 with other bytes in its image.
+fn with_image(at: usize, bytes: &[u8]) -> Case {
+    let mut submission = e1();
+    overlay(&mut submission, B1_IMAGE + at, bytes);
+    review_board::case(&submission)
+}
+
+/// E1 with another word in its image.
+fn with_word(at: usize, value: u32) -> Case {
+    with_image(at, &value.to_le_bytes())
+}
+
+/// The first bytes of E1's image, with a header at 4.
+fn cut_image(length: usize) -> Case {
+    let mut image = e1()[B1_IMAGE..E1_IMAGE_END].to_vec();
+    overlay(&mut image, 4, &Header::default().bytes()[..12]);
+    review_board::case(&submission(&image[..length], b"", &[]))
+}
+
+/// An image that ends with a table of a segment and empty program headers, bytes cut off of it.
+fn with_table(count: usize, cut: usize) -> Case {
+    let mut table = vec![ProgramHeader::default(); count];
+    table[0] = ProgramHeader::load(0, 0x10_0000, 8, 16);
+    let elf = Elf::new(64, 0x10_0000, table);
+    let header = &Header::default().bytes()[..12];
+    let mut image = [&elf.header.bytes(), header, &elf.table_bytes()].concat();
+    image.truncate(image.len() - cut);
+    review_board::case(&submission(&image, b"", &[]))
 }
 
 /// A submission without an image.
@@ -119,6 +157,43 @@ fn each_rule_of_the_kernel_alone() {
     assert_eq!([number(&with_field(ENTRY_ADDR, 0x10_0027)), number(&image(40, header(2)))], [0, 6]);
 }
 
+#[test]
+fn each_rule_of_the_elf_header_alone() {
+    (0..4).for_each(|at| alone(with_image(at, b"x"), 8, "bit 16 clear and no ELF mark"));
+    (16..52).for_each(|length| alone(cut_image(length), 18, "under 52 bytes"));
+    for other in [0, 2, 0x81] {
+        alone(with_image(EI_CLASS, &[other]), 18, "another class");
+        alone(with_image(EI_DATA, &[other]), 18, "another data");
+    }
+    (0..2).for_each(|at| alone(with_image(E_TYPE + at, &[1]), 18, "another type"));
+    (0..2).for_each(|at| alone(with_image(E_MACHINE + at, &[1]), 18, "another machine"));
+    (0..2).for_each(|at| alone(with_image(E_PHENTSIZE + at, &[1]), 18, "another entry size"));
+    alone(with_word(E_PHNUM, 0), 18, "no segment");
+    alone(with_word(E_PHNUM, 4), 18, "a table beyond the image");
+    alone(with_table(2, 1), 18, "a table beyond the image");
+    alone(with_table(17, 0), 18, "over 16 entries");
+    assert_eq!([number(&review_board::case(&e1())), number(&with_table(16, 0))], [0; 2]);
+}
+
+#[test]
+fn each_rule_of_the_table_alone() {
+    let mut types = with_word(CODE + P_TYPE, 0);
+    overlay(&mut types.submission, B1_IMAGE + DATA + P_TYPE, &[2]);
+    alone(types, 18, "no segment");
+    alone(with_word(DATA + P_OFFSET, 169), 19, "file bytes outside the image");
+    alone(with_word(DATA + P_OFFSET, u32::MAX), 19, "file bytes outside the image");
+    alone(with_word(CODE + P_MEMSZ, 7), 19, "a file size above the memory size");
+    alone(with_word(DATA + P_MEMSZ, 0), 19, "a file size above the memory size");
+    for start in [0x0F_FFF9, 0x10_0000, 0x10_000F] {
+        alone(with_word(DATA + P_PADDR, start), 20, "two segments that share an address");
+    }
+    for entry in [0, 0x0F_FFFF, 0x10_0008, 0x10_0017, 0x10_001C, 0xC010_0000] {
+        alone(with_word(E_ENTRY, entry), 14, "an entry in no segment's load bytes");
+    }
+    let loaded = [with_word(DATA + P_PADDR, 0x10_0010), with_word(E_ENTRY, 0x10_001B)];
+    assert_eq!(loaded.map(|case| number(&case)), [0; 2]);
+}
+
 /// Lengths that lead anywhere, and long garbage.
 #[test]
 fn any_bytes_are_read() {
@@ -126,6 +201,11 @@ fn any_bytes_are_read() {
         let cases = [0, 1, 0x7F, 0xFF].map(|byte| with(at, &[byte; 4]));
         let by_second = cases.each_ref().map(|case| run(second::load, case).words[0]);
         assert_eq!(cases.each_ref().map(number), by_second, "at {at}");
+    }
+    for at in 0..E1_IMAGE_END - B1_IMAGE {
+        let cases = [0, 1, 0x10, 0xFF].map(|byte| with_image(at, &[byte]));
+        let by_second = cases.each_ref().map(|case| run(second::load, case).words[0]);
+        assert_eq!(cases.each_ref().map(number), by_second, "in E1's image at {at}");
     }
     let maps = [0, 1, 19, 0xFF].map(|byte| number(&on_map(vec![byte; 300 << 10])));
     assert_eq!(maps, [5; 4]);

@@ -1,7 +1,7 @@
 //! What the review program prints, by the second loader and by the compiled program.
 
 use evidence::compare::printed::{printed, MAX_INPUT};
-use evidence::input::bench_cases::b1;
+use evidence::input::bench_cases::{b1, e1};
 use evidence::input::generate::review_submission;
 use evidence::loaders::second;
 use std::fs;
@@ -13,9 +13,10 @@ const SAMPLES: &str = concat!(env!("CARGO_MANIFEST_DIR"), "/../../samples");
 const PROGRAM: &str = concat!(env!("CARGO_MANIFEST_DIR"), "/../../target/bin/review");
 
 #[test]
-fn b1_is_a_sample() {
-    let sample = fs::read(Path::new(SAMPLES).join("b1.ksb")).expect("B1 can be read");
-    assert_eq!(sample, b1());
+fn b1_and_e1_are_samples() {
+    let sample = |name: &str| fs::read(Path::new(SAMPLES).join(name)).expect("it can be read");
+    assert_eq!(sample("b1.ksb"), b1());
+    assert_eq!(sample("elf.ksb"), e1());
 }
 
 #[test]
@@ -60,7 +61,7 @@ fn printed_by_program(submission: &[u8]) -> String {
 
 #[test]
 fn the_program_prints_what_the_second_loader_says() {
-    let fixed = [b1(), Vec::new(), vec![0; MAX_INPUT], vec![0; MAX_INPUT + 1]];
+    let fixed = [b1(), e1(), Vec::new(), vec![0; MAX_INPUT], vec![0; MAX_INPUT + 1]];
     let generated = (0..300).map(|index| review_submission(1, index));
     for submission in fixed.into_iter().chain(generated) {
         assert_eq!(printed_by_program(&submission), printed(second::load, &submission));

@@ -2,7 +2,7 @@
 
 use evidence::compare::by_address::{agrees, SMALL_BOARD};
 use evidence::compare::{same, sound};
-use evidence::input::bench_cases::b1;
+use evidence::input::bench_cases::{b1, e1};
 use evidence::input::case::Case;
 use evidence::input::draft::pattern;
 use evidence::input::pair::{map_bytes, Pair};
@@ -12,7 +12,8 @@ use evidence::rules::bytes::{put_u32, u32_at};
 use evidence::rules::limits::{FLOOR, RAM};
 use evidence::rules::offsets::structure;
 use evidence::rules::words;
-use viertompu::{read_words, Refusal, Words};
+use std::ops::Range;
+use viertompu::{read_words, Refusal, Segment, Words};
 
 const CASES: u64 = 2000;
 
@@ -35,10 +36,46 @@ fn never_writes(case: &Case, window: &mut [u8]) -> Words {
 fn copies_the_first_module_alone(case: &Case, window: &mut [u8]) -> Words {
     let words = second::load(case, window);
     if let Ok(plan) = read_words(&words) {
-        for module in plan.modules[1..].iter().filter(|m| m.end != 0) {
-            let offset = |address: u32| (address - case.first) as usize;
-            let part = offset(module.start)..offset(module.end);
-            window[part.clone()].copy_from_slice(&case.window[part]);
+        for module in &plan.modules[1..] {
+            restore(case, window, module.start..module.end);
+        }
+    }
+    words
+}
+
+/// Gives addresses the bytes that they had before the load.
+fn restore(case: &Case, window: &mut [u8], addresses: Range<u32>) {
+    if !addresses.is_empty() {
+        let offset = |address: u32| (address - case.first) as usize;
+        let part = offset(addresses.start)..offset(addresses.end);
+        window[part.clone()].copy_from_slice(&case.window[part]);
+    }
+}
+
+fn loads_the_first_segment_alone(case: &Case, window: &mut [u8]) -> Words {
+    let words = second::load(case, window);
+    if let Ok(plan) = read_words(&words) {
+        for segment in &plan.segments[1..] {
+            restore(case, window, segment.start..segment.extent_end);
+        }
+    }
+    words
+}
+
+/// Loads all segments, and tells of the first.
+fn tells_the_first_segment_alone(case: &Case, window: &mut [u8]) -> Words {
+    let decision = read_words(&second::load(case, window)).map(|mut plan| {
+        plan.segments[1..].fill(Segment::default());
+        plan
+    });
+    words(&decision)
+}
+
+fn leaves_the_zeros_of_later_segments(case: &Case, window: &mut [u8]) -> Words {
+    let words = second::load(case, window);
+    if let Ok(plan) = read_words(&words) {
+        for segment in &plan.segments[1..] {
+            restore(case, window, segment.load_end..segment.extent_end);
         }
     }
     words
@@ -47,9 +84,9 @@ fn copies_the_first_module_alone(case: &Case, window: &mut [u8]) -> Words {
 fn clears_a_byte_behind_the_bss(case: &Case, window: &mut [u8]) -> Words {
     let words = second::load(case, window);
     if let Ok(plan) = read_words(&words) {
-        let offset = (plan.segments[0].extent_end - case.first) as usize;
-        if let Some(byte) = window.get_mut(offset) {
-            *byte = 0;
+        for segment in plan.loaded_segments() {
+            let offset = (segment.extent_end - case.first) as usize;
+            window.get_mut(offset).into_iter().for_each(|byte| *byte = 0);
         }
     }
     words
@@ -76,7 +113,7 @@ fn invents_mods_count(case: &Case, window: &mut [u8]) -> Words {
 fn writes_before_it_refuses(case: &Case, window: &mut [u8]) -> Words {
     let words = second::load(case, window);
     if words[0] >= 16 {
-        window[0] = 0;
+        window.first_mut().into_iter().for_each(|byte| *byte = 0);
     }
     words
 }
@@ -103,10 +140,13 @@ fn by_address(case: &Case, outcome: &Outcome) -> bool {
 }
 
 /// Their loads and refusals show that they are wrong.
-const WRONG_BY_THEMSELVES: [(&str, Loader); 6] = [
+const WRONG_BY_THEMSELVES: [(&str, Loader); 9] = [
     ("always_the_same_plan", always_the_same_plan),
     ("never_writes", never_writes),
     ("copies_the_first_module_alone", copies_the_first_module_alone),
+    ("loads_the_first_segment_alone", loads_the_first_segment_alone),
+    ("tells_the_first_segment_alone", tells_the_first_segment_alone),
+    ("leaves_the_zeros_of_later_segments", leaves_the_zeros_of_later_segments),
     ("clears_a_byte_behind_the_bss", clears_a_byte_behind_the_bss),
     ("invents_mods_count", invents_mods_count),
     ("writes_before_it_refuses", writes_before_it_refuses),
@@ -144,19 +184,19 @@ fn none_finds_fault_with_the_second_itself() {
     assert!(!caught(second::load, by_address));
 }
 
-#[test]
-fn every_byte_and_word_of_a_load_is_read() {
+/// Each byte and each word of the load of a submission on a small board.
+fn every_change_shows(submission: &[u8]) {
     let memory = [Pair::new(0, 0x1000, RAM), Pair::new(FLOOR, 0x2000, RAM)];
     let case = Case {
         operator: b"line".to_vec(),
         map: map_bytes(&memory),
         window: pattern(0, 0x1005),
-        ..review_board::case(&b1())
+        ..review_board::case(submission)
     };
     let right =
         |outcome: &Outcome| sound(&case, outcome).and_then(|()| agrees(&case, outcome, u128::MAX));
     let outcome = run(second::load, &case);
-    assert_eq!(right(&outcome), Ok(true));
+    assert_eq!((outcome.words[0], right(&outcome)), (0, Ok(true)));
     for at in 0..outcome.window.len() {
         let mut other = outcome.clone();
         other.window[at] ^= 1;
@@ -167,4 +207,10 @@ fn every_byte_and_word_of_a_load_is_read() {
         other.words[at] ^= 1;
         assert!(right(&other).is_err(), "word {at}");
     }
+}
+
+#[test]
+fn every_byte_and_word_of_a_load_is_read() {
+    every_change_shows(&b1());
+    every_change_shows(&e1());
 }

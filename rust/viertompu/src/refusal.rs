@@ -16,6 +16,9 @@ macro_rules! refusals {
         }
 
         impl Refusal {
+            /// The numbers of the refusals, in the order of the checks.
+            pub const NUMBERS: &'static [u32] = &[$($number),*];
+
             /// The number of the refusal.
             pub fn number(self) -> u32 {
                 match self { $(Refusal::$name { .. } => $number,)* }
@@ -50,14 +53,17 @@ refusals! {
     5 BadMemoryMap "the map is empty, over 4,096 bytes, has over 32 pairs, or a pair has a size under 20 or runs past the map's end",
     6 NoHeader "the image has no header",
     7 UnknownRequest "one of the header's flag bits 2 to 15 is set",
-    8 NoAddressFields "the header's flag bit 16 is clear",
+    8 NoAddressFields "the header's flag bit 16 is clear, and the image does not begin with the ELF mark",
     9 HeaderCutOff "the 32 bytes of header and address fields do not lie inside both the image and its first 8,192 bytes",
     10 LoadBeforeImage "load_addr is above header_addr, or their difference is above the header's offset",
     11 NothingToLoad "load_end_addr is 0, and no byte of the image is left from the load offset on",
     12 LoadPastImage "load_end_addr is not 0 and below load_addr, or the load ends beyond the image",
     13 BssBelowLoadEnd "bss_end_addr is not 0 and below the load end",
-    14 EntryOutsideLoad "entry_addr is below load_addr, or not below the load end",
-    15 KernelNotOpen "an address of the kernel's extent is not open",
+    18 BadElf "the ELF image is under 52 bytes, is not of class 1, data 1, type 2, machine 3 and entry size 32, has its table beyond the image or over 16 entries in it, or has no segment",
+    19 BadProgramHeader "a loadable program header has file bytes outside the image, or a file size above its memory size",
+    20 SegmentsOverlap "two segments share an address",
+    14 EntryOutsideLoad "the entry lies in no segment's load bytes",
+    15 KernelNotOpen "an address of the kernel's extents is not open",
     16 NoRoomForModule { index } "there is no room for a module; the item is its index, counted from 0",
     17 NoRoomForBlock "there is no room for the information block",
 }

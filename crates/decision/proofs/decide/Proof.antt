@@ -1,4 +1,4 @@
--- `decision::decide` meets its contract: a refusal of checks 1 to 14, or the decision on memory.
+-- `decision::decide` meets its contract: a refusal of the checks before 15, or the decision on memory.
 -- Assumes nothing.
 use mathlib.Core.Path.{_≡_, sym, ap, _∙_}
 use mathlib.Core.Bool.{true}

@@ -4,7 +4,7 @@ use mathlib.Core.Path.{_∙_}
 use Prim.Native.Nat.{_^_, _<_}
 use native.Mathlib.Omega.{arith}
 use borrow.Author.Needs.{needs}
-use Rattle.image.proofs.RefusalLaws.{length-fits}
+use Rattle.image.proofs.RefusalLaws.{length-fits, one-few}
 use Rattle.image.proofs.judge_load.Statement.{statement}
 use Rattle.image.proofs.judge_load.Tie as tie
 
@@ -20,21 +20,16 @@ load-length-requires c κs = search needs
 check-load-requires : tie.Need-check-load-requires
 check-load-requires c κs = omega (arith, short c, c .before .pre .0 .load)
 
-on-pages-requires : tie.Need-on-pages-requires
-on-pages-requires c κs = search needs
-
 kernel-for-requires : tie.Need-kernel-for-requires
-kernel-for-requires c κs = omega (arith, short (c .before .before), c .before .before .before .pre .0 .load)
+kernel-for-requires c κs = omega (arith, short (c .before), c .before .before .pre .0 .load)
 
-with-kernel-requires : tie.Need-with-kernel-requires
-with-kernel-requires c κs = search needs
+judge-entry-requires : tie.Need-judge-entry-requires
+judge-entry-requires c κs = rw (c .kernel-for .ensures) (one-few _ _ _ _ _)
 
 returns : tie.Need-returns
 returns c =
-    let pages = c .before .before in
-    let answer = pages .before in
-    let len = answer .before in
-    c .with-kernel .ensures ∙ rw (c .before .kernel-for .ensures, pages .on-pages .ensures, answer .check-load .ensures, len .load-length .ensures)
+    let answer = c .before .before in
+    c .judge-entry .ensures ∙ rw (c .before .kernel-for .ensures, answer .check-load .ensures, answer .before .load-length .ensures)
 
 pub judge-load-spec : {M : Type 1} → statement M
 judge-load-spec =
@@ -42,7 +37,6 @@ judge-load-spec =
     (tie.spec
     load-length-requires
     check-load-requires
-    on-pages-requires
     kernel-for-requires
-    with-kernel-requires
+    judge-entry-requires
     returns)

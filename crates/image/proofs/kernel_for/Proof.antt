@@ -1,6 +1,7 @@
 -- `image::kernel_for` meets its contract.
 -- Assumes nothing.
 use borrow.Author.Needs.{needs}
+use Rattle.kernel.specs.Kernel.{kernelWith}
 use Rattle.image.specs.Judged.{kernelFor}
 use Rattle.image.proofs.kernel_for.Statement.{statement}
 use Rattle.image.proofs.kernel_for.Tie as tie
@@ -18,7 +19,7 @@ array-set-from-segments : tie.Need-array-set-from-segments
 array-set-from-segments c = search needs
 
 returns : tie.Need-returns
-unfolding kernelFor
+unfolding kernelFor kernelWith
 returns c = rw (c .before .no-segment .ensures, c .before .before .extent-end .ensures, c .before .before .before .load-end .ensures)
 
 pub kernel-for-spec : {M : Type 1} → statement M

@@ -8,7 +8,7 @@ use lib.ListN.{replicate}
 use Rattle.laws.specs.Table.{table}
 use Rattle.laws.specs.TableLaws.{table-none, table-more}
 use Rattle.address.specs.Span.{noSpan}
-use Rattle.image.specs.Kernel.{extentNo}
+use Rattle.kernel.specs.Kernel.{extentNo}
 use Rattle.placement.specs.Free.{maxSpans}
 use Rattle.items.specs.LoadItems.{extentsOf}
 use Rattle.items.proofs.extents.Statement.{statement}

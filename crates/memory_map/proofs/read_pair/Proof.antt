@@ -24,6 +24,9 @@ add-read-u32 c = search needs
 read-u32-requires : tie.Need-read-u32-requires
 read-u32-requires c κs = search needs
 
+cast-t9 : tie.Need-cast-t9
+cast-t9 c = search needs
+
 returns : tie.Need-returns
 unfolding pairAt
 returns c = rw (c .before .before .read-u64 .ensures, c .before .read-u642 .ensures, c .read-u32 .ensures) refl
@@ -38,4 +41,5 @@ read-pair-spec =
     read-u64-requires-2
     add-read-u32
     read-u32-requires
+    cast-t9
     returns)

@@ -4,7 +4,7 @@ use Prim.Native.Nat.{_+_, _*_, _≤_}
 use native.Mathlib.Omega.{arith}
 use borrow.Author.Needs.{needs}
 use Rattle.submission.specs.Format.{maxModules}
-use Rattle.image.specs.Kernel.{maxSegments}
+use Rattle.kernel.specs.Kernel.{maxSegments}
 use Rattle.viertompu.specs.JoinedLaws.{joined-short}
 use Rattle.report.specs.Report.{maxLineText, numberWord, itemWord, segmentLine, moduleLine}
 use Rattle.report.specs.ReportLaws.{segment-short, module-short, refusal-short, report-of-refusal, report-short}

@@ -5,7 +5,7 @@ use Prim.Native.Nat.{_-_, _≤_}
 use native.Mathlib.Omega.{arith}
 use borrow.Author.Needs.{needs}
 use lib.ListN.{length}
-use Rattle.image.specs.Kernel.{maxSegments}
+use Rattle.kernel.specs.Kernel.{maxSegments}
 use Rattle.viertompu.specs.Joined.{joined}
 use Rattle.viertompu.specs.JoinedLaws.{joined-short}
 use Rattle.report.specs.Text.{Wrote}

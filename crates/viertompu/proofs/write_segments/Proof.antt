@@ -6,7 +6,7 @@ use native.Mathlib.Omega.{arith}
 use borrow.Author.Needs.{needs}
 use Rattle.buffer.specs.Patched.{patched}
 use Rattle.buffer.specs.PatchedLaws.{patched-nil}
-use Rattle.image.specs.Kernel.{maxSegments}
+use Rattle.kernel.specs.Kernel.{maxSegments}
 use Rattle.viertompu.specs.Words.{firstSegment, segmentWords}
 use Rattle.viertompu.specs.Joined.{joined}
 use Rattle.viertompu.proofs.TurnLaws.{segment-written}

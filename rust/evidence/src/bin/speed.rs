@@ -84,12 +84,13 @@ fn writes(case: &Case, plan: &Plan, loaded: &[u8]) -> Vec<(usize, Vec<u8>)> {
     let reading = model::read(case).unwrap_or_else(|_| panic!("the case is a load"));
     let submission = reading.submission;
     let offset = |address: u32| (address - case.first) as usize;
-    let segment = plan.segments[0];
-    let (load_end, extent_end) = (offset(segment.load_end), offset(segment.extent_end));
-    let mut writes = vec![
-        (offset(segment.start), submission.image.to_vec()),
-        (load_end, vec![0; extent_end - load_end]),
-    ];
+    let mut writes = Vec::new();
+    for (segment, from) in plan.loaded_segments().iter().zip(&reading.kernel.segments) {
+        let [start, load_end, end] =
+            [segment.start, segment.load_end, segment.extent_end].map(offset);
+        let bytes = &submission.image[from.offset as usize..][..load_end - start];
+        writes.extend([(start, bytes.to_vec()), (load_end, vec![0; end - load_end])]);
+    }
     for (module, span) in submission.modules.iter().zip(&plan.modules) {
         writes.push((offset(span.start), module.data.to_vec()));
     }

@@ -38,13 +38,14 @@ fn refuses(refusal: Refusal, outcome: &Outcome) -> Result<(), String> {
 fn loads(reading: &Reading, starts: &[u64], outcome: &Outcome) -> Result<(), String> {
     let plan = read_words(&outcome.words).map_err(|_| "address by address it is a load")?;
     let kernel = &reading.kernel;
-    let segment = plan.segments[0];
-    let told =
-        [plan.header_offset, segment.start, segment.load_end, segment.extent_end, plan.entry];
-    let numbers =
-        [kernel.header_offset, kernel.start, kernel.load_end, kernel.extent_end, kernel.entry];
-    if told.map(u64::from) != numbers {
-        return Err(format!("address by address the kernel is {numbers:X?}"));
+    if [plan.header_offset, plan.entry].map(u64::from) != [kernel.header_offset, kernel.entry] {
+        return Err("address by address it is another header or entry".into());
+    }
+    let told = plan.loaded_segments().iter().map(|s| [s.start, s.load_end, s.extent_end]);
+    let segments = kernel.segments.iter().map(|s| [s.start, s.load_end, s.extent_end]);
+    let segments: Vec<[u64; 3]> = segments.collect();
+    if told.map(|numbers| numbers.map(u64::from)).ne(segments.iter().copied()) {
+        return Err(format!("address by address the segments are {segments:X?}"));
     }
     let mut told: Vec<u64> = plan.placed_modules().iter().map(|m| u64::from(m.start)).collect();
     told.push(u64::from(plan.block.start));

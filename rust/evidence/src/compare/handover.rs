@@ -1,13 +1,14 @@
 //! Reads a finished load as a kernel would, by following addresses from EBX, and finds that the
 //! window holds what the submission, the map and the command line hold, and nothing else changed.
 
+use super::elf::{Elf, ProgramHeader};
 use crate::input::case::Case;
 use crate::loaders::model::{self, Module, Reading};
 use crate::loaders::Outcome;
 use crate::rules::bytes::u32_at;
 use crate::rules::limits::{
-    BOOT_MAGIC, CMDLINE_FLAG, FLOOR, LOADER_NAME, MODULE_ENTRY, PAGE, PAGE_ALIGNED, STRUCTURE,
-    STRUCTURE_FLAGS, WORD,
+    ADDRESS_FIELDS, BOOT_MAGIC, CMDLINE_FLAG, ELF_MARK, FLOOR, LOADER_NAME, MODULE_ENTRY, PAGE,
+    PAGE_ALIGNED, STRUCTURE, STRUCTURE_FLAGS, WORD,
 };
 use crate::rules::offsets::{header, structure};
 use viertompu::{Plan, Segment, Span};
@@ -87,11 +88,29 @@ fn demand(holds: bool, what: &str) -> Result<(), String> {
     }
 }
 
+/// A kernel as its image tells it, as exact numbers.
+struct Kernel {
+    parts: Vec<Part>,
+    entry: u64,
+}
+
+/// Where bytes of the image go.
+struct Part {
+    offset: u64,
+    start: u64,
+    load_end: u64,
+    extent_end: u64,
+}
+
 impl<'a> Load<'a> {
+    fn image(&self) -> &'a [u8] {
+        self.reading.submission.image
+    }
+
     /// A word of the header that the plan names.
     fn header_word(&self, offset: usize) -> Result<u32, String> {
         let at = self.plan.header_offset as usize + offset;
-        let bytes = self.reading.submission.image.get(at..at + 4);
+        let bytes = self.image().get(at..at + 4);
         Ok(u32_at(bytes.ok_or("the header is not in the image")?, 0))
     }
 
@@ -100,21 +119,67 @@ impl<'a> Load<'a> {
         self.reading.submission.modules.iter().zip(&self.plan.modules)
     }
 
-    /// The image's bytes lie where header_addr ties them, and zeros behind them.
+    /// Each part of the kernel stands at its place in table order, and nothing else in the plan.
     fn kernel(&self) -> Result<(), String> {
-        let (plan, segment) = (self.plan, self.plan.segments[0]);
-        let loaded = self.memory.part(u64::from(segment.start), u64::from(segment.load_end))?;
-        let bss = self.memory.part(u64::from(segment.load_end), u64::from(segment.extent_end))?;
-        let distance = i64::from(self.header_word(header::HEADER_ADDR)?) - i64::from(segment.start);
-        let from = usize::try_from(i64::from(plan.header_offset) - distance);
-        let image = self.reading.submission.image.get(from.unwrap_or(usize::MAX)..);
-        demand(image.is_some_and(|i| i.starts_with(loaded)), "load bytes")?;
-        demand(bss.iter().all(|&byte| byte == 0), "bss")?;
-        let entry = self.header_word(header::ENTRY_ADDR)?;
-        let inside = (segment.start..segment.load_end).contains(&entry);
-        demand(plan.entry == entry && inside, "entry")?;
-        let others = &plan.segments[1..];
-        demand(others.iter().all(|s| *s == Segment::default()), "segments")
+        let flags = self.header_word(header::FLAGS)?;
+        let announced = flags & ADDRESS_FIELDS != 0;
+        let kernel = if announced { self.by_address_fields() } else { self.by_table() }?;
+        let loaded = self.plan.loaded_segments();
+        demand(loaded.len() == kernel.parts.len(), "count of segments")?;
+        for (part, segment) in kernel.parts.iter().zip(loaded) {
+            self.segment(part, segment)?;
+        }
+        let mut loads = loaded.iter().map(|segment| segment.start..segment.load_end);
+        let inside = loads.any(|load| load.contains(&self.plan.entry));
+        demand(u64::from(self.plan.entry) == kernel.entry && inside, "entry")?;
+        let unused = &self.plan.segments[loaded.len()..];
+        demand(unused.iter().all(|s| *s == Segment::default()), "segments")
+    }
+
+    /// A part's file bytes lie at its addresses, and zeros behind them.
+    fn segment(&self, part: &Part, segment: &Segment) -> Result<(), String> {
+        let told = [segment.start, segment.load_end, segment.extent_end].map(u64::from);
+        demand(told == [part.start, part.load_end, part.extent_end], "segment's addresses")?;
+        let loaded = self.memory.part(part.start, part.load_end)?;
+        let zeros = self.memory.part(part.load_end, part.extent_end)?;
+        let from = usize::try_from(part.offset).ok();
+        let image = from.and_then(|from| self.image().get(from..));
+        let stands = loaded.is_empty() || image.is_some_and(|image| image.starts_with(loaded));
+        demand(stands, "load bytes")?;
+        demand(zeros.iter().all(|&byte| byte == 0), "bss")
+    }
+
+    /// The kernel as the address fields give it.
+    fn by_address_fields(&self) -> Result<Kernel, String> {
+        let field = |offset: usize| self.header_word(offset).map(i64::from);
+        let (header_addr, start) = (field(header::HEADER_ADDR)?, field(header::LOAD_ADDR)?);
+        let offset = i64::from(self.plan.header_offset) - (header_addr - start);
+        let load_end = match field(header::LOAD_END_ADDR)? {
+            0 => start + self.image().len() as i64 - offset,
+            load_end_addr => load_end_addr,
+        };
+        let extent_end = load_end.max(field(header::BSS_END_ADDR)?);
+        let number = |number: i64| u64::try_from(number).map_err(|_| "a number below 0");
+        let part = Part {
+            offset: number(offset)?,
+            start: number(start)?,
+            load_end: number(load_end)?,
+            extent_end: number(extent_end)?,
+        };
+        Ok(Kernel { parts: vec![part], entry: number(field(header::ENTRY_ADDR)?)? })
+    }
+
+    /// The kernel as the image's program headers give it.
+    fn by_table(&self) -> Result<Kernel, String> {
+        let image = Some(self.image()).filter(|image| image.starts_with(ELF_MARK));
+        let elf = image.and_then(Elf::read).ok_or("loaded neither way")?;
+        let part = |segment: &ProgramHeader| Part {
+            offset: segment.p_offset,
+            start: segment.p_paddr,
+            load_end: segment.load().end,
+            extent_end: segment.extent().end,
+        };
+        Ok(Kernel { parts: elf.segments().map(part).collect(), entry: elf.e_entry })
     }
 
     /// Each module's data stands whole at a boundary from 1 MiB up.
@@ -202,10 +267,10 @@ impl<'a> Load<'a> {
 
     /// No two parts share a byte, and no byte outside of them changed.
     fn rest(&self) -> Result<(), String> {
-        let segment = self.plan.segments[0];
-        let extent = Span { start: segment.start, end: segment.extent_end };
-        let mut spans = vec![extent, self.plan.block];
+        let extent = |segment: &Segment| Span { start: segment.start, end: segment.extent_end };
+        let mut spans: Vec<Span> = self.plan.loaded_segments().iter().map(extent).collect();
         spans.extend(self.placed_modules().map(|(_, span)| span));
+        spans.push(self.plan.block);
         spans.sort_by_key(|span| span.start);
         let apart = |two: &[Span]| two[0].end <= two[1].start;
         demand(spans.windows(2).all(apart), "parts that share a byte")?;

@@ -2,12 +2,14 @@
 //!
 //! - [`same`], [`sound`]: two outcomes of a case are one; an outcome is right by itself
 //! - [`handover`]: reads a finished load as a kernel would, and finds every byte accounted for
+//! - [`elf`]: the headers of an ELF image as they stand in it
 //! - [`by_address`]: an outcome is what the address-by-address model says
 //! - [`coverage`]: how often each number came, each rule was broken and each goal was reached
 //! - [`printed`]: what the review program prints for a submission
 
 pub mod by_address;
 pub mod coverage;
+pub mod elf;
 pub mod handover;
 pub mod printed;
 

@@ -2,8 +2,11 @@
 //! any rule.
 
 use crate::input::case::Case;
+use crate::input::elf::Elf;
 use crate::input::pair::{map_bytes, Pair};
-use crate::rules::limits::{HEADER_MAGIC, MARK, SHORT_HEADER, VERSION};
+use crate::rules::limits::{
+    ADDRESS_FIELDS, FULL_HEADER, HEADER_MAGIC, MARK, SHORT_HEADER, VERSION,
+};
 
 /// A header's place in the image and its fields.
 #[derive(Clone, Debug, Default)]
@@ -85,6 +88,8 @@ pub struct Draft {
     /// the image's bytes where no header stands
     pub filler: Vec<u8>,
     pub header: Header,
+    /// the headers of an ELF image, if it is one
+    pub elf: Option<Elf>,
     /// offsets of a magic with a wrong sum, or of one that is not at a multiple of 4
     pub decoys: Vec<usize>,
     pub modules: Vec<Module>,
@@ -98,14 +103,25 @@ pub struct Draft {
 }
 
 impl Draft {
-    /// The filler under decoys and header.
+    /// Is it an ELF image that its header gives no address fields for?
+    pub fn is_elf(&self) -> bool {
+        self.elf.is_some() && self.header.flags & ADDRESS_FIELDS == 0
+    }
+
+    /// The filler under decoys, program headers, ELF header and header, each over those before it.
     fn image(&self) -> Vec<u8> {
         let mut image = self.filler.clone();
         for &offset in &self.decoys {
             let decoy = Header { checksum_off_by: u32::from(offset % 4 == 0), ..Header::default() };
             overlay(&mut image, offset, &decoy.bytes()[..SHORT_HEADER]);
         }
-        overlay(&mut image, self.header.offset, &self.header.bytes());
+        if let Some(elf) = &self.elf {
+            overlay(&mut image, elf.header.e_phoff as usize, &elf.table_bytes());
+            overlay(&mut image, 0, &elf.header.bytes());
+        }
+        let announced = self.header.flags & ADDRESS_FIELDS != 0;
+        let length = if announced { FULL_HEADER } else { SHORT_HEADER };
+        overlay(&mut image, self.header.offset, &self.header.bytes()[..length]);
         image
     }
 

@@ -50,6 +50,25 @@ pub const PAGE_ALIGNED: u32 = 1;
 /// The header's flag that announces the address fields.
 pub const ADDRESS_FIELDS: u32 = 1 << 16;
 
+/// The first bytes of an ELF image.
+pub const ELF_MARK: &[u8] = b"\x7FELF";
+/// The bytes of an ELF header.
+pub const ELF_HEADER: usize = 52;
+/// The class of an ELF image: 32 bits.
+pub const ELFCLASS32: u8 = 1;
+/// Its data: little-endian.
+pub const ELFDATA2LSB: u8 = 1;
+/// Its type: an executable.
+pub const ET_EXEC: u16 = 2;
+/// Its machine: the 80386.
+pub const EM_386: u16 = 3;
+/// The bytes of a program header.
+pub const PROGRAM_HEADER: usize = 32;
+/// Program headers of an ELF image.
+pub const MAX_PROGRAM_HEADERS: usize = 16;
+/// The type of a loadable program header.
+pub const PT_LOAD: u32 = 1;
+
 /// EAX at the hand-over.
 pub const BOOT_MAGIC: u32 = 0x2BAD_B002;
 /// The flags of the block's structure: memory sizes, modules, memory map and loader name.

@@ -1,4 +1,5 @@
-//! Where the fields of the submission, the header and the information block's structure stand.
+//! Where the fields of the submission, the image's headers and the information block's structure
+//! stand.
 
 /// Offsets in a submission.
 pub mod submission {
@@ -24,6 +25,28 @@ pub mod header {
     pub const LOAD_END_ADDR: usize = 20;
     pub const BSS_END_ADDR: usize = 24;
     pub const ENTRY_ADDR: usize = 28;
+}
+
+/// Offsets in an ELF header.
+pub mod elf_header {
+    pub const EI_CLASS: usize = 4;
+    pub const EI_DATA: usize = 5;
+    pub const E_TYPE: usize = 16;
+    pub const E_MACHINE: usize = 18;
+    pub const E_ENTRY: usize = 24;
+    pub const E_PHOFF: usize = 28;
+    pub const E_PHENTSIZE: usize = 42;
+    pub const E_PHNUM: usize = 44;
+}
+
+/// Offsets in a program header.
+pub mod program_header {
+    pub const P_TYPE: usize = 0;
+    pub const P_OFFSET: usize = 4;
+    pub const P_VADDR: usize = 8;
+    pub const P_PADDR: usize = 12;
+    pub const P_FILESZ: usize = 16;
+    pub const P_MEMSZ: usize = 20;
 }
 
 /// Offsets in the information block's structure.

@@ -1,14 +1,16 @@
 //! A decision as the 96 words that a loader gives.
 
+use std::iter::once;
 use viertompu::{Plan, Refusal, Words, WORDS};
 
 pub type Decision = Result<Plan, Refusal>;
 
-/// The numbers that some input gives. None gives 11: the header found lies in the image, and not
-/// before the load offset.
+/// The numbers that some input gives, in the order of the checks. None gives 11: the header found
+/// lies in the image, and not before the load offset.
 pub fn reachable_numbers() -> impl Iterator<Item = u32> {
-    let (last, unreachable) = (Refusal::NoRoomForBlock, Refusal::NothingToLoad);
-    (0..=last.number()).filter(move |&number| number != unreachable.number())
+    let refusals = Refusal::NUMBERS.iter().copied();
+    let unreachable = Refusal::NothingToLoad.number();
+    once(0).chain(refusals.filter(move |&number| number != unreachable))
 }
 
 /// The words of a decision. Those of a refusal are its number and item, and zeros.

@@ -10,8 +10,8 @@ use borrow.Author.Needs.{needs}
 use Rattle.laws.specs.Tests.{allFrom}
 use Rattle.laws.specs.TestLaws.{all-intro, all-not}
 use Rattle.address.specs.declared.Span.{Span}
-use Rattle.image.specs.declared.Kernel.{Kernel}
-use Rattle.image.specs.Kernel.{extentNo}
+use Rattle.kernel.specs.declared.Kernel.{Kernel}
+use Rattle.kernel.specs.Kernel.{extentNo}
 use Rattle.board.specs.declared.Board.{Board}
 use Rattle.board.specs.Open.{isOpen}
 use Rattle.decision.specs.Decided.{extentOpen, kernelOpen}

@@ -1,9 +1,8 @@
 -- `image::check::check_load` meets its contract: its tests are those of `loadChecks`, in order.
 -- Assumes nothing.
 use borrow.Author.Needs.{needs}
-use Rattle.laws.specs.CheckLaws.{chain}
+use Rattle.laws.specs.CheckLaws.{chain, told}
 use Rattle.image.specs.Judged.{loadChecks}
-use Rattle.image.proofs.TestLaws.{told}
 use Rattle.image.proofs.check.check_load.Statement.{statement}
 use Rattle.image.proofs.check.check_load.Tie as tie
 
@@ -37,26 +36,13 @@ returns-3 c =
     let end = at1 .before .before .load-end .ensures in
     search (chain, told (at1 .before .nothing-left .ensures) (at1 .if1 .left), told (at2 .before .past-image .ensures) (at2 .if2 .left), rw end at (told (c .before .bss-below .ensures) (c .if3 .taken))) depth 20
 
-entry-outside-requires : tie.Need-entry-outside-requires
-entry-outside-requires c κs = search needs
-
 returns-4 : tie.Need-returns-4
 unfolding loadChecks
 returns-4 c =
-    let at3 = c .before .before in
-    let at2 = at3 .before .before in
+    let at2 = c .before .before in
     let at1 = at2 .before .before in
     let end = at1 .before .before .load-end .ensures in
-    search (chain, told (at1 .before .nothing-left .ensures) (at1 .if1 .left), told (at2 .before .past-image .ensures) (at2 .if2 .left), rw end at (told (at3 .before .bss-below .ensures) (at3 .if3 .left)), rw end at (told (c .before .entry-outside .ensures) (c .if4 .taken))) depth 20
-
-returns-5 : tie.Need-returns-5
-unfolding loadChecks
-returns-5 c =
-    let at3 = c .before .before in
-    let at2 = at3 .before .before in
-    let at1 = at2 .before .before in
-    let end = at1 .before .before .load-end .ensures in
-    search (chain, told (at1 .before .nothing-left .ensures) (at1 .if1 .left), told (at2 .before .past-image .ensures) (at2 .if2 .left), rw end at (told (at3 .before .bss-below .ensures) (at3 .if3 .left)), rw end at (told (c .before .entry-outside .ensures) (c .if4 .left))) depth 20
+    search (chain, told (at1 .before .nothing-left .ensures) (at1 .if1 .left), told (at2 .before .past-image .ensures) (at2 .if2 .left), rw end at (told (c .before .bss-below .ensures) (c .if3 .left))) depth 20
 
 pub check-load-spec : {M : Type 1} → statement M
 check-load-spec =
@@ -69,6 +55,4 @@ check-load-spec =
     returns-2
     bss-below-requires
     returns-3
-    entry-outside-requires
-    returns-4
-    returns-5)
+    returns-4)

@@ -6,7 +6,7 @@ use native.Mathlib.Omega.{arith}
 use borrow.Author.Needs.{needs}
 use Rattle.header.specs.Header.{searchLimit}
 use Rattle.image.specs.Load.{fullHeader}
-use Rattle.image.proofs.TestLaws.{tests}
+use Rattle.laws.specs.CheckLaws.{tests}
 use Rattle.image.proofs.check.cut_off.Statement.{statement}
 use Rattle.image.proofs.check.cut_off.Tie as tie
 

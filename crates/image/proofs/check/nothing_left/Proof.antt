@@ -1,7 +1,7 @@
 -- `image::check::nothing_left` meets its contract: its two tests are those of `nothingLeft`.
 -- Assumes nothing.
 use mathlib.Core.Path.{sym}
-use Rattle.image.proofs.TestLaws.{tests}
+use Rattle.laws.specs.CheckLaws.{tests}
 use Rattle.image.proofs.check.nothing_left.Statement.{statement}
 use Rattle.image.proofs.check.nothing_left.Tie as tie
 

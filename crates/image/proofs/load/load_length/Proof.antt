@@ -3,7 +3,7 @@
 use mathlib.Core.Path.{_∙_}
 use borrow.Author.Needs.{needs}
 use Rattle.image.specs.Load.{loadLength}
-use Rattle.image.proofs.TestLaws.{tests}
+use Rattle.laws.specs.CheckLaws.{tests}
 use Rattle.image.proofs.load.load_length.Statement.{statement}
 use Rattle.image.proofs.load.load_length.Tie as tie
 

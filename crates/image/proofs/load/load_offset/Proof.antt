@@ -1,6 +1,6 @@
 -- `image::load::load_offset` meets its contract: its two tests are those of `beforeImage`.
 -- Assumes nothing.
-use Rattle.image.proofs.TestLaws.{tests}
+use Rattle.laws.specs.CheckLaws.{tests}
 use Rattle.image.proofs.load.load_offset.Statement.{statement}
 use Rattle.image.proofs.load.load_offset.Tie as tie
 

@@ -1,4 +1,4 @@
-//! Boards: a map, a window and a load address for a kernel and items of known lengths.
+//! Boards: a map, a window and load addresses for a kernel's extents and items of known lengths.
 
 use crate::input::pair::Pair;
 use crate::input::rng::Rng;
@@ -10,14 +10,16 @@ const RESERVED: [u32; 5] = [2, 2, 3, 0, u32::MAX];
 
 /// What the board is made for. The count of pairs is given, as the block's length hangs on it.
 pub struct Needs {
-    pub kernel: u64,
+    /// the lengths of the kernel's extents
+    pub kernel: Vec<u64>,
     pub items: Vec<Item>,
     pub pairs: usize,
 }
 
 pub struct Board {
     pub pairs: Vec<Pair>,
-    pub load_addr: u64,
+    /// where each extent begins
+    pub load_addrs: Vec<u64>,
     pub window: Range<u64>,
 }
 
@@ -25,7 +27,8 @@ impl Needs {
     /// Enough bytes for kernel and items in any order.
     fn room(&self) -> u64 {
         let items: u64 = self.items.iter().map(|item| item.length + item.boundary + 16).sum();
-        self.kernel + 16 + items
+        let kernel: u64 = self.kernel.iter().map(|length| length + 16).sum();
+        kernel + items
     }
 }
 
@@ -50,16 +53,19 @@ fn origin(rng: &mut Rng, room: u64) -> u64 {
 struct Region {
     start: u64,
     end: u64,
-    is_kernel: bool,
+    /// the index of the extent that it is made for
+    extent: Option<usize>,
 }
 
-/// A usable region of the exact length for the kernel and for each item; one of them may be off by
+/// A usable region of the exact length for each extent and for each item; one of them may be off by
 /// a byte.
 pub fn fitted(rng: &mut Rng, needs: &Needs) -> Board {
     let mut regions = regions(rng, needs);
-    let kernel = regions.iter().find(|region| region.is_kernel);
-    let load_addr = kernel.expect("the kernel has a region").start;
+    let load_addrs = starts(&regions, needs.kernel.len());
     let window = around(rng, &regions);
+    while regions.len() > needs.pairs {
+        join_two(rng, &mut regions);
+    }
     if rng.one_in(2) {
         let index = rng.below(regions.len() as u64) as usize;
         trim(rng, &mut regions[index]);
@@ -69,7 +75,19 @@ pub fn fitted(rng: &mut Rng, needs: &Needs) -> Board {
         _ => regions.iter().map(|r| pair_of(r.start, r.end, RAM)).collect(),
     };
     pad(rng, &mut pairs, needs.pairs, &window);
-    Board { pairs, load_addr, window }
+    Board { pairs, load_addrs, window }
+}
+
+/// The starts of the extents' regions.
+fn starts(regions: &[Region], extents: usize) -> Vec<u64> {
+    let region = |index: usize| regions.iter().find(move |region| region.extent == Some(index));
+    (0..extents).map(|index| region(index).expect("each extent has a region").start).collect()
+}
+
+/// Makes one region of two neighbours and what lies between them.
+fn join_two(rng: &mut Rng, regions: &mut Vec<Region>) {
+    let index = rng.below(regions.len() as u64 - 1) as usize;
+    regions[index].end = regions.remove(index + 1).end;
 }
 
 fn pair_of(start: u64, end: u64, kind: u32) -> Pair {
@@ -78,23 +96,51 @@ fn pair_of(start: u64, end: u64, kind: u32) -> Pair {
 
 /// The regions in rising order, mostly that of placing.
 fn regions(rng: &mut Rng, needs: &Needs) -> Vec<Region> {
-    let kernel_boundary = rng.pick(&[1, 1, 4, PAGE]);
-    let kernel = Item { length: needs.kernel, boundary: kernel_boundary };
-    let mut wanted = vec![(kernel, true)];
-    wanted.extend(needs.items.iter().map(|&item| (item, false)));
+    let boundaries: &[u64] = if needs.kernel.len() < 4 { &[1, 1, 4, PAGE] } else { &[1, 1, 4] };
+    let boundary = rng.pick(boundaries);
+    let extents = needs.kernel.iter().map(|&length| Item { length, boundary }).enumerate();
+    let mut wanted: Vec<_> = extents.map(|(index, item)| (item, Some(index))).collect();
+    if rng.one_in(3) {
+        rng.shuffle(&mut wanted);
+    }
+    wanted.extend(needs.items.iter().map(|&item| (item, None)));
     if rng.one_in(4) {
         rng.shuffle(&mut wanted);
     }
-    let mut at = origin(rng, needs.room() + kernel_boundary);
+    let mut at = origin(rng, needs.room() + boundary * needs.kernel.len() as u64);
     let mut regions = Vec::new();
-    for (item, is_kernel) in wanted {
+    for (item, extent) in wanted {
         let lead = rng.pick(&[0, 0, 0, 1, 2, 3, 5, 16]);
         let start = (at + lead).next_multiple_of(item.boundary);
         let end = start + item.length;
-        regions.push(Region { start, end, is_kernel });
+        regions.push(Region { start, end, extent });
         at = end;
     }
     regions
+}
+
+/// Addresses for the extents from a first one up: in any order, with little between them or with a
+/// gap that an item fills, or for which it is a byte too long.
+pub fn laid(rng: &mut Rng, needs: &Needs, first: u64) -> Vec<u64> {
+    let mut order: Vec<usize> = (0..needs.kernel.len()).collect();
+    if rng.one_in(2) {
+        rng.shuffle(&mut order);
+    }
+    let measured = rng.one_in(2);
+    let mut items = needs.items.iter();
+    let mut addresses = vec![0; order.len()];
+    let mut at = first;
+    for index in order {
+        addresses[index] = at;
+        at += needs.kernel[index];
+        at = match items.next() {
+            Some(item) if measured => {
+                at.next_multiple_of(item.boundary) + item.length - rng.pick(&[0, 0, 1])
+            }
+            _ => at + rng.pick(&[0, 0, 1, 3, 16]),
+        };
+    }
+    addresses
 }
 
 /// Makes a region a byte shorter or longer, at either end.
@@ -150,7 +196,8 @@ pub fn roomy(rng: &mut Rng, needs: &Needs) -> Board {
         pairs.push(Pair::new(at, rng.below(20), rng.pick(&RESERVED)));
     }
     pad(rng, &mut pairs, needs.pairs, &window);
-    Board { pairs, load_addr: low + lead, window }
+    let load_addrs = laid(rng, needs, low + lead);
+    Board { pairs, load_addrs, window }
 }
 
 /// A window from 0 on to behind 1 MiB, with usable memory at both ends.
@@ -159,7 +206,8 @@ pub fn from_zero(rng: &mut Rng, needs: &Needs) -> Board {
     let mut pairs = vec![Pair::new(0, LOW_MEMORY, RAM), Pair::new(FLOOR, high, RAM)];
     let window = 0..FLOOR + high;
     pad(rng, &mut pairs, needs.pairs, &window);
-    Board { pairs, load_addr: rng.pick(&[0, 0x7C00, FLOOR]), window }
+    let first = rng.pick(&[0, 0x7C00, FLOOR]);
+    Board { pairs, load_addrs: laid(rng, needs, first), window }
 }
 
 /// Pairs of all kinds thrown over a window, which may be empty.
@@ -180,7 +228,8 @@ pub fn scattered(rng: &mut Rng, needs: &Needs) -> Board {
         pairs.push(Pair::new(base, rng.below(reach + 1), kind));
     }
     rng.shuffle(&mut pairs);
-    Board { pairs, load_addr: low + rng.below(length / 2 + 1), window }
+    let first = low + rng.below(length / 2 + 1);
+    Board { pairs, load_addrs: laid(rng, needs, first), window }
 }
 
 /// Brings the pairs to their count: splits some and adds some far from the window, then shuffles.

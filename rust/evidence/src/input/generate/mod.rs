@@ -1,18 +1,20 @@
 //! Seeded inputs: sound ones on boards of all kinds, nudged ones and damaged ones. A case depends
 //! on its seed and index alone.
 
+mod address_fields;
 mod board;
 mod damage;
+mod elf;
 
 use crate::input::case::Case;
 use crate::input::draft::{Draft, Header, Module};
+use crate::input::elf::Elf;
 use crate::input::pair::Pair;
 use crate::input::review_board;
 use crate::input::rng::Rng;
 use crate::rules::limits::{
-    ADDRESS_FIELDS, FLOOR, FULL_HEADER, LOADER_NAME, MAX_LINE, MAX_MAP, MAX_MODULES, MAX_PAIRS,
-    MAX_STRING, MIN_PAIR_SIZE, MODULE_ENTRY, PAGE, PAGE_ALIGNED, SEARCH_LIMIT, SHORT_HEADER,
-    STRUCTURE, WORD,
+    FLOOR, LOADER_NAME, MAX_LINE, MAX_MAP, MAX_MODULES, MAX_PAIRS, MAX_STRING, MIN_PAIR_SIZE,
+    MODULE_ENTRY, PAGE, PAGE_ALIGNED, SHORT_HEADER, STRUCTURE, WORD,
 };
 use crate::rules::Item;
 use board::{Board, Needs};
@@ -35,8 +37,8 @@ pub fn case(seed: u64, index: u64) -> Case {
             damage::nudge(&mut rng, &mut draft);
             draft.case(name)
         }
-        12..=16 => damage::damaged(&mut rng, draft, &damage::all(), 1, name),
-        17 => damage::damaged(&mut rng, draft, &damage::all(), 2, name),
+        12..=16 => damage::damaged(&mut rng, draft, damage::all, 1, name),
+        17 => damage::damaged(&mut rng, draft, damage::all, 2, name),
         _ => {
             let mut case = draft.case(name);
             damage::scramble(&mut rng, &mut case);
@@ -50,38 +52,39 @@ pub fn review_submission(seed: u64, index: u64) -> Vec<u8> {
     let mut rng = Rng::of_case(seed, index);
     let draft = sound(&mut rng, for_review);
     let times = rng.below(2) as usize;
-    let damages = damage::of_submission();
-    damage::damaged(&mut rng, draft, &damages, times, String::new()).submission
+    damage::damaged(&mut rng, draft, damage::of_submission, times, String::new()).submission
 }
 
-fn for_review(rng: &mut Rng, _: &Needs) -> Board {
+fn for_review(rng: &mut Rng, needs: &Needs) -> Board {
+    let first = FLOOR + rng.pick(&[0, 0, 0, 4, 0x1000, 0xB_F00]);
     Board {
         pairs: review_board::pairs().to_vec(),
-        load_addr: FLOOR + rng.pick(&[0, 0, 0, 4, 0x1000, 0xB_F00]),
+        load_addrs: board::laid(rng, needs, first),
         window: review_board::case(&[]).addresses(),
     }
 }
 
 /// A draft that breaks no rule before check 15.
 fn sound(rng: &mut Rng, make: MakeBoard) -> Draft {
-    let shape = KernelShape::new(rng);
+    let shape = Shape::new(rng);
     let flags = flags(rng);
     let modules = modules(rng, flags & PAGE_ALIGNED != 0);
     let line = text(rng, MAX_LINE);
     let operator = text(rng, MAX_LINE);
-    let sizes = pair_sizes(rng, modules.len());
+    let kernel = shape.extents();
+    let sizes = pair_sizes(rng, kernel.len() + modules.len());
     let boundary = if flags & PAGE_ALIGNED != 0 { PAGE } else { WORD };
     let in_force = if operator.is_empty() { &line } else { &operator };
     let item = |module: &Module| Item { length: module.data.len() as u64, boundary };
     let mut items: Vec<_> = modules.iter().map(item).collect();
     items.push(Item { length: block_length(&sizes, in_force, &modules), boundary: WORD });
-    let needs =
-        Needs { kernel: shape.load_length + shape.bss.unwrap_or(0), items, pairs: sizes.len() };
-    let board = make(rng, &needs);
+    let board = make(rng, &Needs { kernel, items, pairs: sizes.len() });
+    let (header, elf) = shape.headers(flags, &board.load_addrs);
     Draft {
-        filler: filler(rng, shape.image_length),
-        header: shape.header(flags, board.load_addr),
-        decoys: decoys(rng, shape.header_offset),
+        filler: filler(rng, shape.image_length()),
+        decoys: decoys(rng, header.offset),
+        header,
+        elf,
         modules,
         line,
         operator,
@@ -97,70 +100,51 @@ fn sized(pairs: &[Pair], sizes: &[u32]) -> Vec<Pair> {
     pairs.iter().zip(sizes).map(with_size).collect()
 }
 
-/// The lengths and offsets of a kernel, before it has an address.
-struct KernelShape {
-    image_length: usize,
-    header_offset: usize,
-    /// how far before the header the load begins
-    back: u64,
-    load_length: u64,
-    end_given: bool,
-    bss: Option<u64>,
-    entry: u64,
+/// A kernel before it has addresses.
+enum Shape {
+    AddressFields(address_fields::Shape),
+    Elf(elf::Shape),
 }
 
-impl KernelShape {
+impl Shape {
     fn new(rng: &mut Rng) -> Self {
-        let last = (SEARCH_LIMIT - FULL_HEADER) as u64;
-        let header_offset = match rng.below(24) {
-            0..=7 => 0,
-            8..=20 => 4 * rng.below(16),
-            21 => 4 * rng.below(500),
-            22 => last,
-            _ => 4 * rng.below(last / 4 + 1),
-        };
-        let some = rng.below(300);
-        let behind = rng.pick(&[0, 0, 1, 8, some / 4, some, LONG_IMAGE as u64 - header_offset]);
-        let image_length = header_offset + FULL_HEADER as u64 + behind;
-        let part = rng.below(header_offset + 1);
-        let back = rng.pick(&[header_offset, header_offset, 0, part]);
-        let most = image_length - (header_offset - back);
-        let part = 1 + rng.below(most);
-        let load_length = rng.pick(&[most, most, part]);
-        let within = rng.below(load_length);
-        let some = rng.below(3000);
-        KernelShape {
-            image_length: image_length as usize,
-            header_offset: header_offset as usize,
-            back,
-            load_length,
-            end_given: load_length < most || rng.one_in(2),
-            bss: rng.pick(&[None, None, Some(0), Some(1), Some(some / 20), Some(some)]),
-            entry: rng.pick(&[0, load_length - 1, within]),
+        if rng.below(20) < 7 {
+            Shape::Elf(elf::Shape::new(rng))
+        } else {
+            Shape::AddressFields(address_fields::Shape::new(rng))
         }
     }
 
-    fn header(&self, flags: u32, load_addr: u64) -> Header {
-        let load_end = load_addr + self.load_length;
-        Header {
-            offset: self.header_offset,
-            flags,
-            header_addr: (load_addr + self.back) as u32,
-            load_addr: load_addr as u32,
-            load_end_addr: if self.end_given { load_end as u32 } else { 0 },
-            bss_end_addr: self.bss.map_or(0, |bss| (load_end + bss) as u32),
-            entry_addr: (load_addr + self.entry) as u32,
-            ..Header::default()
+    fn image_length(&self) -> usize {
+        match self {
+            Shape::AddressFields(shape) => shape.image_length,
+            Shape::Elf(shape) => shape.image_length,
+        }
+    }
+
+    /// The lengths of the kernel's extents.
+    fn extents(&self) -> Vec<u64> {
+        match self {
+            Shape::AddressFields(shape) => shape.extents(),
+            Shape::Elf(shape) => shape.extents(),
+        }
+    }
+
+    /// The headers of the image, its extents at these addresses.
+    fn headers(&self, flags: u32, load_addrs: &[u64]) -> (Header, Option<Elf>) {
+        match self {
+            Shape::AddressFields(shape) => (shape.header(flags, load_addrs[0]), shape.elf.clone()),
+            Shape::Elf(shape) => (shape.header(flags), Some(shape.elf(load_addrs))),
         }
     }
 }
 
-/// Bit 16 and any of the bits a loader must know or may ignore. High flags make the header's sum
-/// 2^33 rather than 2^32.
+/// Any of the bits a loader must know or may ignore, bit 16 not among them. High flags make the
+/// header's sum 2^33 rather than 2^32.
 fn flags(rng: &mut Rng) -> u32 {
     let any = rng.next_u64() as u32 & 0xFFFE_0000;
     let ignored = rng.pick(&[0, 0, 0, any, 0xFFFE_0000]);
-    ignored | ADDRESS_FIELDS | rng.below(4) as u32
+    ignored | rng.below(4) as u32
 }
 
 /// Up to 16 modules; fewer where they take whole pages.
@@ -198,9 +182,9 @@ fn text(rng: &mut Rng, most: usize) -> Vec<u8> {
     rng.text(length as usize)
 }
 
-/// The sizes of a map's pairs, enough of them for the kernel and each item to have one.
-fn pair_sizes(rng: &mut Rng, modules: usize) -> Vec<u32> {
-    let least = modules as u64 + 3;
+/// The sizes of a map's pairs, where there can be enough of them for each part to have one.
+fn pair_sizes(rng: &mut Rng, parts: usize) -> Vec<u32> {
+    let least = parts as u64 + 2;
     let count = match rng.below(24) {
         0 => MAX_PAIRS as u64,
         _ => (least + rng.below(5)).min(MAX_PAIRS as u64),
@@ -256,7 +240,7 @@ mod tests {
         for index in 0..20_000 {
             let mut rng = Rng::of_case(1, index);
             let draft = sound(&mut rng, board::roomy);
-            damage::damaged(&mut rng, draft, &damage::all(), 8, String::new());
+            damage::damaged(&mut rng, draft, damage::all, 8, String::new());
         }
     }
 }

@@ -3,18 +3,21 @@
 //! Each check is a list of rules, and refuses where one of them is broken. Placing asks every
 //! address in turn: exact for every board, but quick only for small ones.
 
+mod address_fields;
+mod elf;
 mod kernel;
 mod memory_map;
 mod placing;
 mod submission;
 
-pub use kernel::Kernel;
+pub use kernel::{Kernel, Segment};
 pub use placing::Board;
 pub use submission::{Module, Submission};
 
 use crate::input::case::Case;
 use crate::rules::limits::{LOADER_NAME, MAX_LINE, MODULE_ENTRY, PAGE, STRUCTURE, TOP, WORD};
 use crate::rules::Item;
+use std::ops::Range;
 use viertompu::Refusal;
 
 /// A rule of a check, in a few words, and whether the case breaks it.
@@ -23,13 +26,13 @@ pub struct Rule {
     pub broken: bool,
 }
 
-/// The check from 1 to 14 that refuses a case, with all its rules.
+/// The check before 15 that refuses a case, with all its rules.
 pub struct Refused {
     pub refusal: Refusal,
     pub rules: Vec<Rule>,
 }
 
-/// What stands in a case that passes checks 1 to 14.
+/// What stands in a case that passes all checks before 15.
 pub struct Reading<'a> {
     pub submission: Submission<'a>,
     /// the command line in force
@@ -38,7 +41,7 @@ pub struct Reading<'a> {
     pub kernel: Kernel,
 }
 
-/// Checks 1 to 14.
+/// The checks before 15: 1 to 8, then 9 to 13 or 18 to 20 by the kind of image, then 14.
 pub fn read(case: &Case) -> Result<Reading<'_>, Refused> {
     let submission = submission::read(&case.submission)?;
     let operator = case.operator.as_slice();
@@ -62,7 +65,8 @@ impl Reading<'_> {
         let item = |module: &Module| Item { length: module.data.len() as u64, boundary };
         let modules: Vec<Item> = self.submission.modules.iter().map(item).collect();
         let block = Item { length: self.block_length(), boundary: WORD };
-        self.board.place(self.kernel.start..self.kernel.extent_end, &modules, block)
+        let extents: Vec<Range<u64>> = self.kernel.segments.iter().map(Segment::extent).collect();
+        self.board.place(&extents, &modules, block)
     }
 
     /// The count of the information block's bytes, part after part.

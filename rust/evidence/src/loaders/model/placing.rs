@@ -42,14 +42,15 @@ impl Board {
     /// The starts of the modules and of the block, or the refusal from 15 on that applies.
     pub fn place(
         &self,
-        extent: Range<u64>,
+        extents: &[Range<u64>],
         modules: &[Item],
         block: Item,
     ) -> Result<Vec<u64>, Refusal> {
-        if !extent.clone().all(|a| self.open(a)) {
+        if !extents.iter().cloned().flatten().all(|a| self.open(a)) {
             return Err(Refusal::KernelNotOpen);
         }
-        let unused = |a: u64| self.open(a) && !extent.contains(&a);
+        let in_kernel = |a: u64| extents.iter().any(|extent| extent.contains(&a));
+        let unused = |a: u64| self.open(a) && !in_kernel(a);
         let mut free: Vec<bool> = self.window.clone().map(unused).collect();
         let mut starts = Vec::new();
         for (index, &module) in modules.iter().enumerate() {

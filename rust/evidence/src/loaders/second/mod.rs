@@ -1,24 +1,29 @@
-//! The second loader: checks in the order of their numbers, placing by sets of spans, and the
-//! window written only after every check has passed.
+//! The second loader: checks in the order of the rules, placing by sets of spans, and the window
+//! written only after every check has passed.
 //!
-//! Physical addresses are plain `u64`; offsets in the image are `kernel::ImageOffset`.
+//! Physical addresses are plain `u64`; offsets in the image are `image::ImageOffset`.
 
+mod address_fields;
 mod block;
+mod elf;
+mod image;
 mod kernel;
 mod memory_map;
 mod spans;
 mod submission;
 
 use crate::input::case::Case;
-use crate::rules::limits::{BOOT_MAGIC, MAX_LINE, MAX_MODULES, PAGE, TOP, WORD};
+use crate::rules::limits::{BOOT_MAGIC, MAX_LINE, PAGE, TOP, WORD};
 use crate::rules::{words, Decision, Item};
 use block::Block;
+use image::Segment;
 use kernel::Kernel;
 use memory_map::MemoryMap;
 use spans::{Span, SpanSet};
+use std::array::from_fn;
 use std::ops::Range;
 use submission::Submission;
-use viertompu::{Plan, Refusal, Segment, Words, MAX_SEGMENTS};
+use viertompu::{Plan, Refusal, Words};
 
 /// Loads the case into the window, or refuses and leaves the window as it was.
 pub fn load(case: &Case, window: &mut [u8]) -> Words {
@@ -39,7 +44,7 @@ struct Examined<'a> {
     window: Span,
 }
 
-/// Checks 1 to 14.
+/// Checks 1 to 14, and 18 to 20 before 14.
 fn examine(case: &Case) -> Result<Examined<'_>, Refusal> {
     let submission = Submission::read(&case.submission)?;
     if case.operator.len() > MAX_LINE || case.operator.contains(&0) {
@@ -81,11 +86,7 @@ struct Placed {
 
 /// Checks 15 to 17.
 fn place(examined: &Examined) -> Result<Placed, Refusal> {
-    let mut free = examined.map.usable().within(examined.window);
-    if !free.covers(examined.kernel.extent()) {
-        return Err(Refusal::KernelNotOpen);
-    }
-    free.remove(examined.kernel.extent());
+    let mut free = open_around(examined).ok_or(Refusal::KernelNotOpen)?;
     let mut modules = Vec::new();
     for (index, item) in examined.module_items().into_iter().enumerate() {
         let span = take(&mut free, item).ok_or(Refusal::NoRoomForModule { index: index as u32 })?;
@@ -93,6 +94,17 @@ fn place(examined: &Examined) -> Result<Placed, Refusal> {
     }
     let block = take(&mut free, examined.block_item()).ok_or(Refusal::NoRoomForBlock)?;
     Ok(Placed { modules, block })
+}
+
+/// The open memory around the kernel's extents, or nothing where an address of them is not open.
+fn open_around(examined: &Examined) -> Option<SpanSet> {
+    let mut free = examined.map.usable().within(examined.window);
+    let extents = || examined.kernel.segments.iter().map(Segment::extent);
+    if !extents().all(|extent| free.covers(extent)) {
+        return None;
+    }
+    extents().for_each(|extent| free.remove(extent));
+    Some(free)
 }
 
 /// Takes the lowest place of an item out of the free memory, or nothing where it has none.
@@ -103,11 +115,13 @@ fn take(free: &mut SpanSet, item: Item) -> Option<Span> {
     Some(span)
 }
 
-/// Writes the load bytes, zeros over the bss, the modules and the information block.
+/// Writes the kernel's segments, the modules and the information block.
 fn write(examined: &Examined, placed: &Placed, window: &mut [u8]) {
-    let (kernel, lent) = (&examined.kernel, examined.window);
-    part(window, lent, kernel.load()).copy_from_slice(kernel.load_bytes);
-    part(window, lent, kernel.bss()).fill(0);
+    let lent = examined.window;
+    for segment in &examined.kernel.segments {
+        part(window, lent, segment.load()).copy_from_slice(segment.load_bytes);
+        part(window, lent, segment.bss()).fill(0);
+    }
     for (module, &span) in examined.submission.modules.iter().zip(&placed.modules) {
         part(window, lent, span).copy_from_slice(module.data);
     }
@@ -123,24 +137,23 @@ fn part(window: &mut [u8], lent: Span, span: Span) -> &mut [u8] {
 
 fn plan_of(examined: &Examined, placed: &Placed) -> Plan {
     let kernel = &examined.kernel;
-    let mut segments = [Segment::default(); MAX_SEGMENTS];
-    segments[0] = Segment {
-        start: word(kernel.start),
-        load_end: word(kernel.load_end),
-        extent_end: word(kernel.extent_end),
-    };
-    let mut modules = [viertompu::Span::default(); MAX_MODULES];
-    for (slot, &span) in modules.iter_mut().zip(&placed.modules) {
-        *slot = word_span(span);
-    }
     Plan {
         header_offset: word(kernel.header_offset.0),
         entry: kernel.entry,
         eax: BOOT_MAGIC,
         ebx: word(placed.block.start),
         block: word_span(placed.block),
-        segments,
-        modules,
+        segments: from_fn(|i| kernel.segments.get(i).map(word_segment).unwrap_or_default()),
+        modules: from_fn(|i| placed.modules.get(i).copied().map(word_span).unwrap_or_default()),
+    }
+}
+
+/// A segment of a load as words.
+fn word_segment(segment: &Segment) -> viertompu::Segment {
+    viertompu::Segment {
+        start: word(segment.start),
+        load_end: word(segment.load_end),
+        extent_end: word(segment.extent_end),
     }
 }
 
