@@ -4,7 +4,7 @@
 --     high-bits                                           flag bits that are ignored
 --     kind-fields, kind-elf, kernel-fields, kernel-elf    which checks the flags choose, and which kernel
 --     ImagePassed, image-passed                           no check applies
---     FieldsPassed, fields-passed, not-cut-off            none of those on address fields applies
+--     FieldsPassed, fields-passed                         none of those on address fields applies
 --     fields-entry-is, elf-entry-is                       14 by either kind
 --     GoodKernel, good-kernel                             where its header, its segments and its entry lie
 --     announced, calculated, listed                       its header and addresses, by the numbers in the image
@@ -43,7 +43,7 @@ use Rattle.elf.specs.Elf.{elfHeader, programHeaderNo}
 use Rattle.elf.specs.GoodElf.{SegmentAt}
 use Rattle.elf.specs.ElfLaws.{tabled, entry-is, elf-passed}
 use Rattle.image.specs.declared.load.AddressFields.{AddressFields}
-use Rattle.image.specs.Load.{flagsAt, fieldsAt, fullHeader, onPages, loadLength, loadEnd}
+use Rattle.image.specs.Load.{flagsAt, fieldsAt, onPages, loadLength, loadEnd}
 use Rattle.image.specs.Judged.{noHeader, offsetOf, headerOffset, headerFlags, headerFields, firstLoaded, countLoaded, unknownRequest, noAddresses, cutOff, beforeImage, nothingLeft, pastImage, isAddressed, segmentFor, kernelFor, fieldsKernel, kernelOf, headerChecks, loadChecks, fieldChecks, kindChecks, imageChecks}
 use Rattle.image.specs.Judge.{judged}
 use Rattle.image.specs.Calculated.{Announced, Calculated}
@@ -112,12 +112,6 @@ module _ (image : List ℕ) where
 there : (r : Search) → noHeader r ≡ false → r ≡ At (record { 0 = offsetOf r })
 there Nothing e = absurd (false≢true (sym e))
 there (At o) e = refl
-
-pub not-cut-off : (o n : ℕ) → cutOff o n ≡ false → (o + fullHeader ≤ searchLimit) × (o + fullHeader ≤ n)
-not-cut-off o n e =
-    let p = ltb searchLimit (o + fullHeader) in
-    let q = ltb n (o + fullHeader) in
-    (ltb-false _ _ (or-none-left p q e), ltb-false _ _ (or-none-right p q e))
 
 not-before : (h : AddressFields) (o : ℕ) → beforeImage h o ≡ false → (h .«load_addr» .0 ≤ h .«header_addr» .0) × (h .«header_addr» .0 - h .«load_addr» .0 ≤ o)
 not-before h o e =

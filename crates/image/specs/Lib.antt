@@ -2,6 +2,7 @@
 pub mod Load
 pub mod Narrow
 pub mod Judged
+pub mod LoadLaws
 pub mod Calculated
 pub mod JudgedLaws
 pub mod Judge

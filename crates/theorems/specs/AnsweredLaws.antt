@@ -17,7 +17,7 @@ use lib.ListN.{length}
 use Rattle.laws.specs.Checks.{onlyIf}
 use Rattle.laws.specs.Tests.{any}
 use Rattle.laws.specs.CheckLaws.{not-to-true, not-to-false}
-use Rattle.laws.specs.TestLaws.{or-none-left, or-none-right, eqb-is, ltb-is, leb-is, not-is, false-is, or-is, and-is}
+use Rattle.laws.specs.TestLaws.{or-none-left, or-none-right, and-left, and-right, eqb-is, ltb-is, leb-is, not-is, false-is, or-is, and-is}
 use Rattle.number.specs.Number.{numberAt}
 use Rattle.address.specs.Address.{top}
 use Rattle.answer.specs.Answer.{numberOf, isLoad, itemOf}
@@ -44,7 +44,8 @@ use Rattle.elf.specs.ElfLaws.{elf-good-is, headers-good-is, segments-apart-is}
 use Rattle.kernel.specs.declared.Kernel.{Kernel}
 use Rattle.kernel.specs.Checks.{entryChecks, extentsOverlap}
 use Rattle.image.specs.Load.{flagsAt, onPages, fieldsAt, loadOffset, loadLength, loadEnd, fullHeader}
-use Rattle.image.specs.Judged.{noHeader, offsetOf, unknownRequest, noAddresses, unknownKind, cutOff, beforeImage, nothingLeft, pastImage, bssBelow, headerOffset, headerFlags, isAddressed, headerChecks, loadChecks, fieldChecks, kindChecks, imageChecks}
+use Rattle.image.specs.Judged.{noHeader, offsetOf, unknownRequest, noAddresses, unknownKind, cutOff, beforeImage, nothingLeft, pastImage, bssBelow, headerOffset, headerFlags, headerFields, isAddressed, headerChecks, loadChecks, fieldChecks, kindChecks, imageChecks}
+use Rattle.image.specs.LoadLaws.{offset-inside}
 use Rattle.image.specs.JudgedLaws.{fields-entry-is, elf-entry-is}
 use Rattle.memory_map.specs.Map.{badMap, mapChecks}
 use Rattle.memory_map.specs.PairsLaws.{map-good-is}
@@ -253,12 +254,28 @@ module _ (x : Lent) where
         submission-good-is (x .submission) .0 (not-false _ (f .1 2 (rw numbers-are early))),
       )
 
+  -- where 11 would be given, 9 does not apply and the load begins inside the image
+  no-eleven : numberOf (decisionOf x .answer) ≡ 11 → ⊥
+  unfolding placeIn appliesFor onlyIf checks lentChecks submissionChecks operatorChecks windowChecks mapChecks headerChecks loadChecks fieldChecks kindChecks entryChecks elfChecks imageChecks kernelChecks roomChecks
+  no-eleven e =
+      let image = imageIn x in
+      let h = headerFields image in
+      let o = headerOffset image in
+      let n = length image in
+      let f = refusal-is 11 (omega arith) .0 e in
+      let early : Before 9 11 = omega arith in
+      let a = and-left (isAddressed image) (nothingLeft h (loadOffset h o) n) (f .0) in
+      let whole : cutOff o n ≡ false = sym (made _ _ a) ∙ f .1 9 early in
+      let none = and-right (eqb (h .«load_end_addr» .0) 0) (leb n (loadOffset h o)) (and-right (isAddressed image) (nothingLeft h (loadOffset h o) n) (f .0)) in
+      omega (arith, offset-inside h o n whole, leb-is n (loadOffset h o) .0 none)
+
   pub answered : (w : List ℕ) → Answered (decisionOf x) w (memoryAfter x w) (holdsIn x)
   answered w =
       record {
         refusal = refusal-is;
         load = none-is;
         other = λ k l. applies-other (checks x) k (rw numbers-are (omega (arith, checks-many)));
+        no-eleven = no-eleven;
         item = item-none (decisionOf x .answer);
         plan = refusal-plan;
         window = refusal-window w;

@@ -100,6 +100,8 @@ pub record Answered (d : Decision) (w v : List ℕ) (c : ℕ → Bool) : Type 0 
   pub load : (numberOf (d .answer) ≡ 0) ↔ ((k : ℕ) → c k ≡ false)
   -- a number that is not in the order of checks has no condition, so that it is not given
   pub other : (k : ℕ) → length checkOrder ≤ placeIn checkOrder k → c k ≡ false
+  -- 11 is not given: where 9 does not hold the load begins inside the image, so that a byte is always left
+  pub no-eleven : numberOf (d .answer) ≡ 11 → ⊥
   -- every answer but 16 has the item 0
   pub item : (numberOf (d .answer) ≡ 16 → ⊥) → itemOf (d .answer) ≡ 0
   -- a refusal has a plan of zeros, and leaves the window as it was

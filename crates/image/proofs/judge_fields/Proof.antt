@@ -6,7 +6,7 @@ use borrow.Author.Needs.{needs}
 use lib.ListN.{length}
 use Rattle.header.specs.HeaderLaws.{header-lowest}
 use Rattle.laws.specs.CheckLaws.{told}
-use Rattle.image.specs.JudgedLaws.{not-cut-off}
+use Rattle.image.specs.LoadLaws.{not-cut-off}
 use Rattle.image.proofs.RefusalLaws.{WholeHeader, cut-off, before-image, load-left, offset-below}
 use Rattle.image.proofs.judge_fields.Statement.{statement}
 use Rattle.image.proofs.judge_fields.Tie as tie
