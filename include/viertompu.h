@@ -56,7 +56,7 @@ extern "C" {
     ANSWER(VIERTOMPU_NO_ADDRESS_FIELDS, 8, "the header's flag bit 16 is clear, and the image does not begin with the ELF mark") \
     ANSWER(VIERTOMPU_HEADER_CUT_OFF, 9, "the 32 bytes of header and address fields do not lie inside both the image and its first 8,192 bytes") \
     ANSWER(VIERTOMPU_LOAD_BEFORE_IMAGE, 10, "load_addr is above header_addr, or their difference is above the header's offset") \
-    ANSWER(VIERTOMPU_NOTHING_TO_LOAD, 11, "load_end_addr is 0, and no byte of the image is left from the load offset on") \
+    /* 11 is not given */ \
     ANSWER(VIERTOMPU_LOAD_PAST_IMAGE, 12, "load_end_addr is not 0 and below load_addr, or the load ends beyond the image") \
     ANSWER(VIERTOMPU_BSS_BELOW_LOAD_END, 13, "bss_end_addr is not 0 and below the load end") \
     ANSWER(VIERTOMPU_BAD_ELF, 18, "the ELF image is under 52 bytes, is not of class 1, data 1, type 2, machine 3 and entry size 32, has its table beyond the image or over 16 entries in it, or has no segment") \

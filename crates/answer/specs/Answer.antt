@@ -1,5 +1,5 @@
 -- The numbers and items of the answers.                                               rule: ANSWERS
---     numberOf    0 for a load, else the number of the refusal
+--     numberOf    0 for a load, else the number of the refusal; 11 is not given
 --     itemOf      the module's index for 16, else 0
 --     isLoad      no check refuses
 --     orElse      the first of two answers that refuses
@@ -8,7 +8,7 @@ use mathlib.Core.Bool.{Bool, cond}
 use Prim.Native.Nat.{ℕ}
 use lib.Dec.{eqb}
 use Rattle.answer.specs.declared.Answer.{Answer}
-use Rattle.answer.specs.declared.Answer.the-variants.{Load, NotASubmission, BadSubmission, BadOperatorLine, WindowPastTop, BadMemoryMap, NoHeader, UnknownRequest, NoAddressFields, HeaderCutOff, LoadBeforeImage, NothingToLoad, LoadPastImage, BssBelowLoadEnd, BadElf, BadProgramHeader, SegmentsOverlap, EntryOutsideLoad, KernelNotOpen, NoRoomForModule, NoRoomForBlock}
+use Rattle.answer.specs.declared.Answer.the-variants.{Load, NotASubmission, BadSubmission, BadOperatorLine, WindowPastTop, BadMemoryMap, NoHeader, UnknownRequest, NoAddressFields, HeaderCutOff, LoadBeforeImage, LoadPastImage, BssBelowLoadEnd, BadElf, BadProgramHeader, SegmentsOverlap, EntryOutsideLoad, KernelNotOpen, NoRoomForModule, NoRoomForBlock}
 
 abbrev pub numberOf : Answer → ℕ
 numberOf Load = 0
@@ -22,7 +22,6 @@ numberOf UnknownRequest = 7
 numberOf NoAddressFields = 8
 numberOf HeaderCutOff = 9
 numberOf LoadBeforeImage = 10
-numberOf NothingToLoad = 11
 numberOf LoadPastImage = 12
 numberOf BssBelowLoadEnd = 13
 numberOf BadElf = 18
@@ -45,7 +44,6 @@ itemOf UnknownRequest = 0
 itemOf NoAddressFields = 0
 itemOf HeaderCutOff = 0
 itemOf LoadBeforeImage = 0
-itemOf NothingToLoad = 0
 itemOf LoadPastImage = 0
 itemOf BssBelowLoadEnd = 0
 itemOf BadElf = 0

@@ -7,7 +7,7 @@ use Prim.Native.Nat.{_≤_}
 use native.Mathlib.Omega.{arith}
 use Rattle.answer.specs.Answer.{numberOf, itemOf}
 use Rattle.answer.specs.declared.Answer.{Answer}
-use Rattle.answer.specs.declared.Answer.the-variants.{Load, NotASubmission, BadSubmission, BadOperatorLine, WindowPastTop, BadMemoryMap, NoHeader, UnknownRequest, NoAddressFields, HeaderCutOff, LoadBeforeImage, NothingToLoad, LoadPastImage, BssBelowLoadEnd, BadElf, BadProgramHeader, SegmentsOverlap, EntryOutsideLoad, KernelNotOpen, NoRoomForModule, NoRoomForBlock}
+use Rattle.answer.specs.declared.Answer.the-variants.{Load, NotASubmission, BadSubmission, BadOperatorLine, WindowPastTop, BadMemoryMap, NoHeader, UnknownRequest, NoAddressFields, HeaderCutOff, LoadBeforeImage, LoadPastImage, BssBelowLoadEnd, BadElf, BadProgramHeader, SegmentsOverlap, EntryOutsideLoad, KernelNotOpen, NoRoomForModule, NoRoomForBlock}
 
 pub item-none : (a : Answer) → (numberOf a ≡ 16 → ⊥) → itemOf a ≡ 0
 item-none Load h = refl
@@ -21,7 +21,6 @@ item-none UnknownRequest h = refl
 item-none NoAddressFields h = refl
 item-none HeaderCutOff h = refl
 item-none LoadBeforeImage h = refl
-item-none NothingToLoad h = refl
 item-none LoadPastImage h = refl
 item-none BssBelowLoadEnd h = refl
 item-none BadElf h = refl
@@ -44,7 +43,6 @@ number-most UnknownRequest = omega arith
 number-most NoAddressFields = omega arith
 number-most HeaderCutOff = omega arith
 number-most LoadBeforeImage = omega arith
-number-most NothingToLoad = omega arith
 number-most LoadPastImage = omega arith
 number-most BssBelowLoadEnd = omega arith
 number-most BadElf = omega arith

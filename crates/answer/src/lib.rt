@@ -26,8 +26,7 @@ pub enum Answer {
     HeaderCutOff,
     // 10: load_addr is above header_addr, or their difference is above the header's offset
     LoadBeforeImage,
-    // 11: load_end_addr is 0, and no byte of the image is left from the load offset on
-    NothingToLoad,
+    // 11 is not given
     // 12: load_end_addr is not 0 and below load_addr, or the load ends beyond the image
     LoadPastImage,
     // 13: bss_end_addr is not 0 and below the load end
@@ -64,7 +63,6 @@ pub fn number(a: Answer) -> u32
         Answer::NoAddressFields => 8,
         Answer::HeaderCutOff => 9,
         Answer::LoadBeforeImage => 10,
-        Answer::NothingToLoad => 11,
         Answer::LoadPastImage => 12,
         Answer::BssBelowLoadEnd => 13,
         Answer::BadElf => 18,

@@ -2,7 +2,8 @@
 --     no-header, unknown-request, unknown-kind    checks 6 to 8
 --     kind-judged                                 the checks on the kind and on the entry are left
 --     by-elf, by-address                          the kind is chosen by the flags
---     cut-off, before-image, load-left            checks 9 and 10, and those on the load
+--     cut-off, before-image                       checks 9 and 10
+--     load-inside, load-left                      the load begins inside the image, and the checks on it are left
 --     length-fits, one-few                        how long a load is at most, and that one segment is not too many
 -- Assumes nothing.
 use mathlib.Core.Path.{_≡_, refl, sym, _∙_}
@@ -32,6 +33,7 @@ use Rattle.image.specs.Load.{flagsAt, fieldsAt, onPages, loadOffset, loa
 use Rattle.image.specs.Narrow.{Narrow}
 use Rattle.image.specs.Judged.{unknownRequest, noAddresses, unknownKind, cutOff, beforeImage, headerFlags, isAddressed, headerChecks, loadChecks, fieldChecks, kindChecks, imageChecks, kernelFor, fieldsKernel, kernelOf}
 use Rattle.image.specs.Judge.{judged}
+use Rattle.image.specs.LoadLaws.{offset-inside}
 use Rattle.image.specs.JudgedLaws.{header-refuses, front-refuses, kind-fields, kind-elf, kernel-fields, kernel-elf}
 
 -- what a choice between nothing and an offset was made by
@@ -42,10 +44,6 @@ chosen-none false x y e f = let z : _≡_ {A = ℕ} 0 1 = cc in absurd (omega ar
 chosen-one : (t : Bool) (x : Search) (y z : ImageOffset) → x ≡ cond t Nothing (At y) → x ≡ At z → (t ≡ false) × (z .0 ≡ y .0)
 chosen-one true x y z e f = let q : _≡_ {A = ℕ} 0 1 = cc in absurd (omega arith)
 chosen-one false x y z e f = (refl, cc)
-
--- a load begins before its header or there
-pub offset-below : (h : AddressFields) (at o : ImageOffset) (r : Search) → r ≡ cond (beforeImage h (at .0)) Nothing (At (record { 0 = loadOffset h (at .0) })) → r ≡ At o → o .0 ≤ at .0
-offset-below h at o r found one = omega (arith, chosen-one (beforeImage h (at .0)) r (record { 0 = loadOffset h (at .0) }) o found one)
 
 -- the answers of the checks, one after the other
 image-chain : (image : List ℕ) → firstOf (imageChecks image) Load ≡ orElse (orElse (firstOf (headerChecks image) Load) (firstOf (kindChecks image) Load)) (firstOf (entryChecks (kernelOf image)) Load)
@@ -126,6 +124,11 @@ module _ {image : List ℕ} {at : ImageOffset} {h : AddressFields} (w : WholeHea
   before-image none =
       let t : beforeImage h (at .0) ≡ true = chosen-none _ r _ offset none in
       field-refused LoadBeforeImage image refl (rw (w .found, ← w .read) (search chain depth 20))
+
+  pub load-inside : (o : ImageOffset) → r ≡ At o → o .0 < length image
+  load-inside o one =
+      let q = chosen-one (beforeImage h (at .0)) r (record { 0 = loadOffset h (at .0) }) o offset one in
+      omega (arith, q .1, offset-inside h (at .0) (length image) (w .whole))
 
   pub load-left : (o : ImageOffset) (pages : Bool) → r ≡ At o → pages ≡ onPages (headerFlags image)
       → withEntry (firstOf (loadChecks h (o .0) (loadLength h (o .0) (length image)) (length image)) Load) (kernelFor h pages (at .0) (o .0) (loadLength h (o .0) (length image))) ≡ withEntry (firstOf (fieldChecks image) Load) (fieldsKernel image)

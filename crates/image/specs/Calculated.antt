@@ -6,7 +6,7 @@ use mathlib.Core.Path.{_≡_}
 use mathlib.Core.Bool.{true}
 use mathlib.Core.Logic.{_↔_}
 use mathlib.Core.List.{List}
-use Prim.Native.Nat.{ℕ, _+_, _-_, max, _<_, _%_, _≤_}
+use Prim.Native.Nat.{ℕ, _+_, max, _<_, _%_, _≤_}
 use lib.ListN.{length}
 use Rattle.number.specs.Number.{numberAt}
 use Rattle.header.specs.HeaderAt.{HeaderAt}
@@ -26,7 +26,7 @@ pub record Calculated (image : List ℕ) (k : Kernel) : Type 0 where
   pub rest : (i : ℕ) → 1 ≤ i → segmentNo k i ≡ noSegment
   pub start : segmentNo k 0 .start .0 ≡ numberAt 4 image (k .header .0 + 16)
   pub offset : segmentNo k 0 .offset .0 + numberAt 4 image (k .header .0 + 12) ≡ k .header .0 + numberAt 4 image (k .header .0 + 16)
-  pub whole : numberAt 4 image (k .header .0 + 20) ≡ 0 → segmentNo k 0 .«load_end» .0 ≡ segmentNo k 0 .start .0 + (length image - segmentNo k 0 .offset .0)
+  pub whole : numberAt 4 image (k .header .0 + 20) ≡ 0 → segmentNo k 0 .«load_end» .0 + segmentNo k 0 .offset .0 ≡ segmentNo k 0 .start .0 + length image
   pub given : (numberAt 4 image (k .header .0 + 20) ≡ 0 → ⊥) → segmentNo k 0 .«load_end» .0 ≡ numberAt 4 image (k .header .0 + 20)
   pub some : segmentNo k 0 .start .0 < segmentNo k 0 .«load_end» .0
   pub end : segmentNo k 0 .«extent_end» .0 ≡ max (segmentNo k 0 .«load_end» .0) (numberAt 4 image (k .header .0 + 24))

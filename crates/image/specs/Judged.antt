@@ -1,6 +1,6 @@
 -- The answer for an image, and its kernel.                                rules: ANSWERS (6 to 14), KERNEL
 --     noHeader, offsetOf    what the header search found: 6
---     unknownRequest, noAddresses, unknownKind, cutOff, beforeImage, nothingLeft, pastImage, bssBelow
+--     unknownRequest, noAddresses, unknownKind, cutOff, beforeImage, pastImage, bssBelow
 --                                            the conditions of 7 to 13
 --     headerOffset, headerFlags, headerFields, firstLoaded, countLoaded
 --                                            what an image's header says
@@ -13,11 +13,11 @@
 use mathlib.Core.Bool.{Bool, true, false, cond, not, _&&_, _||_}
 use mathlib.Core.List.{List, [], _∷_, _++_}
 use Prim.Native.Nat.{ℕ, _+_, _-_, _/_, _%_, _^_}
-use lib.Dec.{eqb, leb, ltb}
+use lib.Dec.{eqb, ltb}
 use lib.ListN.{length}
 use Rattle.laws.specs.Checks.{Check, onlyIf, _gives_}
 use Rattle.answer.specs.declared.Answer.{Answer}
-use Rattle.answer.specs.declared.Answer.the-variants.{NoHeader, UnknownRequest, NoAddressFields, HeaderCutOff, LoadBeforeImage, NothingToLoad, LoadPastImage, BssBelowLoadEnd}
+use Rattle.answer.specs.declared.Answer.the-variants.{NoHeader, UnknownRequest, NoAddressFields, HeaderCutOff, LoadBeforeImage, LoadPastImage, BssBelowLoadEnd}
 use Rattle.header.specs.declared.Search.{Search}
 use Rattle.header.specs.declared.Search.the-variants.{At, Nothing}
 use Rattle.header.specs.Header.{searchLimit, header}
@@ -60,10 +60,6 @@ cutOff o n = ltb searchLimit (o + fullHeader) || ltb n (o + fullHeader)
 -- 10: load_addr above header_addr, or header_addr − load_addr above the header's offset
 abbrev pub beforeImage : AddressFields → ℕ → Bool
 beforeImage h o = ltb (h .«header_addr» .0) (h .«load_addr» .0) || ltb o (h .«header_addr» .0 - h .«load_addr» .0)
-
--- 11: load_end_addr zero and no image byte left from the load offset on
-abbrev pub nothingLeft : AddressFields → ℕ → ℕ → Bool
-nothingLeft h offset n = eqb (h .«load_end_addr» .0) 0 && leb n offset
 
 -- 12: load_end_addr nonzero and below load_addr, or load offset + load length beyond the image
 abbrev pub pastImage : AddressFields → ℕ → ℕ → ℕ → Bool
@@ -117,11 +113,10 @@ headerChecks image =
     ∷ unknownKind image (headerFlags image) gives NoAddressFields
     ∷ []
 
--- the checks on the load of `len` bytes from `offset` on, of an image of n bytes: 11 to 13
+-- the checks on the load of `len` bytes from `offset` on, of an image of n bytes: 12 and 13
 unfoldable pub loadChecks : AddressFields → ℕ → ℕ → ℕ → List (Check Answer)
 loadChecks h offset len n =
-    nothingLeft h offset n gives NothingToLoad
-    ∷ pastImage h offset len n gives LoadPastImage
+    pastImage h offset len n gives LoadPastImage
     ∷ bssBelow h (loadEnd h len) gives BssBelowLoadEnd
     ∷ []
 

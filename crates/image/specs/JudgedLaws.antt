@@ -25,7 +25,7 @@ use Rattle.number.specs.Number.{numberAt}
 use Rattle.address.specs.Span.{Holds}
 use Rattle.answer.specs.Answer.{isLoad}
 use Rattle.answer.specs.ChainLaws.{refuses, refuses-append, chain-append, check-passed, or-else-load, load-is}
-use Rattle.answer.specs.declared.Answer.the-variants.{Load, NoHeader, HeaderCutOff, LoadBeforeImage, NothingToLoad, LoadPastImage, EntryOutsideLoad}
+use Rattle.answer.specs.declared.Answer.the-variants.{Load, NoHeader, HeaderCutOff, LoadBeforeImage, LoadPastImage, EntryOutsideLoad}
 use Rattle.header.specs.declared.Search.{Search}
 use Rattle.header.specs.declared.Search.the-variants.{At, Nothing}
 use Rattle.header.specs.Header.{searchLimit, shortHeader, header}
@@ -44,7 +44,8 @@ use Rattle.elf.specs.GoodElf.{SegmentAt}
 use Rattle.elf.specs.ElfLaws.{tabled, entry-is, elf-passed}
 use Rattle.image.specs.declared.load.AddressFields.{AddressFields}
 use Rattle.image.specs.Load.{flagsAt, fieldsAt, onPages, loadLength, loadEnd}
-use Rattle.image.specs.Judged.{noHeader, offsetOf, headerOffset, headerFlags, headerFields, firstLoaded, countLoaded, unknownRequest, noAddresses, cutOff, beforeImage, nothingLeft, pastImage, isAddressed, segmentFor, kernelFor, fieldsKernel, kernelOf, headerChecks, loadChecks, fieldChecks, kindChecks, imageChecks}
+use Rattle.image.specs.Judged.{noHeader, offsetOf, headerOffset, headerFlags, headerFields, firstLoaded, countLoaded, unknownRequest, noAddresses, cutOff, beforeImage, pastImage, isAddressed, segmentFor, kernelFor, fieldsKernel, kernelOf, headerChecks, loadChecks, fieldChecks, kindChecks, imageChecks}
+use Rattle.image.specs.LoadLaws.{offset-inside}
 use Rattle.image.specs.Judge.{judged}
 use Rattle.image.specs.Calculated.{Announced, Calculated}
 
@@ -164,8 +165,7 @@ fields-passed image e =
     let h = headerFields image in
     let r9 = check-passed (cutOff (headerOffset image) (length image)) HeaderCutOff _ refl e in
     let r10 = check-passed (beforeImage h (headerOffset image)) LoadBeforeImage _ refl (r9 .1) in
-    let r11 = check-passed (nothingLeft h (firstLoaded image) (length image)) NothingToLoad _ refl (r10 .1) in
-    let r12 = check-passed (pastImage h (firstLoaded image) (countLoaded image) (length image)) LoadPastImage _ refl (r11 .1) in
+    let r12 = check-passed (pastImage h (firstLoaded image) (countLoaded image) (length image)) LoadPastImage _ refl (r10 .1) in
     record { whole = r9 .0; after = r10 .0; within = r12 .0 }
 
 -- what is known of the kernel of an image that no check refuses
@@ -260,7 +260,7 @@ module _ (image : List ℕ) (e : firstOf (imageChecks image) Load ≡ Load) wher
           rest = fields-good .rest;
           start = refl;
           offset = omega arith;
-          whole = λ z. rw (eq-eqb _ 0 z) refl;
+          whole = λ z. rw (eq-eqb _ 0 z) (omega (arith, offset-inside (headerFields image) (headerOffset image) (length image) (by-fields .whole)));
           given = λ z. rw (ne-eqb _ 0 z) (omega (arith, not-early (headerFields image) (firstLoaded image) (countLoaded image) (length image) (by-fields .within) z));
           some = load-some;
           end = refl;

@@ -38,7 +38,7 @@ fieldsAt image o =
 abbrev pub loadOffset : AddressFields → ℕ → ℕ
 loadOffset h o = o - (h .«header_addr» .0 - h .«load_addr» .0)
 
--- load_end_addr − load_addr, or, if load_end_addr is 0, all the image from the load offset
+-- load_end_addr − load_addr, or, if load_end_addr is 0, all the image from the load offset, which is never nothing: LoadLaws
 unfoldable pub loadLength : AddressFields → ℕ → ℕ → ℕ
 loadLength h offset n = cond (eqb (h .«load_end_addr» .0) 0) (n - offset) (h .«load_end_addr» .0 - h .«load_addr» .0)
 

@@ -10,7 +10,7 @@ ghost use Prim.Native.Nat.{_+_, _^_, _<_};
 ghost use lib.Dec.{eqb, ltb};
 ghost use Rattle.laws.specs.Checks.{firstOf};
 ghost use Rattle.image.specs.Load.{loadEnd};
-ghost use Rattle.image.specs.Judged.{unknownRequest, noAddresses, unknownKind, cutOff, nothingLeft, pastImage, bssBelow, loadChecks};
+ghost use Rattle.image.specs.Judged.{unknownRequest, noAddresses, unknownKind, cutOff, pastImage, bssBelow, loadChecks};
 
 // Whether any of flag bits 2 to 15 is set.
 pub(crate) fn unknown_request(flags: u32) -> bool
@@ -46,15 +46,12 @@ pub(crate) fn cut_off(at: ImageOffset, n: usize) -> bool
     n < at.0 + load::FULL_HEADER
 }
 
-// The first of checks 11 to 13 that refuses a load of `len` bytes from the offset, of an image of n bytes.
+// The first of checks 12 and 13 that refuses a load of `len` bytes from the offset, of an image of n bytes.
 pub(crate) fn check_load(h: AddressFields, offset: ImageOffset, len: usize, n: usize) -> Answer
     requires { ⌜ (offset .0 + len < 2 ^ 64) × (loadEnd h len < 2 ^ 64) ⌝ }
     ensures { λ r. ⌜ r ≡ firstOf (loadChecks h (offset .0) len n) Answer.Load ⌝ }
 {
     let loaded = load::load_end(h, len);
-    if nothing_left(h, offset, n) {
-        return Answer::NothingToLoad;
-    }
     if past_image(h, offset, len, n) {
         return Answer::LoadPastImage;
     }
@@ -62,16 +59,6 @@ pub(crate) fn check_load(h: AddressFields, offset: ImageOffset, len: usize, n: u
         return Answer::BssBelowLoadEnd;
     }
     Answer::Load
-}
-
-// Whether no image byte is left to load.
-fn nothing_left(h: AddressFields, offset: ImageOffset, n: usize) -> bool
-    ensures { λ r. ⌜ r ≡ nothingLeft h (offset .0) n ⌝ }
-{
-    if h.load_end_addr.0 != 0 {
-        return false;
-    }
-    n <= offset.0
 }
 
 // Whether the load ends before it begins, or past the image.

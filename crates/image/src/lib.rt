@@ -80,7 +80,7 @@ fn judge_load(
     offset: ImageOffset,
     n: usize,
 ) -> Judged
-    requires { ⌜ Narrow h × (offset .0 < 2 ^ 32) × (n < 2 ^ 63) ⌝ }
+    requires { ⌜ Narrow h × (offset .0 < n) × (n < 2 ^ 63) ⌝ }
     ensures { λ r. ⌜ r ≡ withEntry (firstOf (loadChecks h (offset .0) (loadLength h (offset .0) n) n) Answer.Load) (kernelFor h pages (at .0) (offset .0) (loadLength h (offset .0) n)) ⌝ }
 {
     let len = load::load_length(h, offset, n);

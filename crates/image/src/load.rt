@@ -70,25 +70,16 @@ pub(crate) fn load_offset(h: AddressFields, header: ImageOffset) -> Search
     Search::At(ImageOffset(header.0 - back))
 }
 
-// How many of the image's n bytes are loaded.
+// How many of the image's n bytes are loaded, from an offset inside it.
 pub(crate) fn load_length(h: AddressFields, offset: ImageOffset, n: usize) -> usize
+    requires { ⌜ offset .0 < n ⌝ }
     ensures { λ r. ⌜ r ≡ loadLength h (offset .0) n ⌝ }
 {
     if h.load_end_addr.0 == 0 {
-        bytes_from(offset, n)
+        n - offset.0
     } else {
         h.load_end_addr.offset_from(h.load_addr)
     }
-}
-
-// How many of an image's n bytes stand from the offset on.
-fn bytes_from(offset: ImageOffset, n: usize) -> usize
-    ensures { λ r. ⌜ r ≡ n - offset .0 ⌝ }
-{
-    if n < offset.0 {
-        return 0;
-    }
-    n - offset.0
 }
 
 // Where the load ends.

@@ -2,7 +2,7 @@
 --     true-or-false, or-cases, lt-or-le                          what is decided
 --     or-none-left, or-none-right                                neither of two tests passes
 --     and-left, and-right                                        both of two tests pass
---     eqb-is, ltb-is, leb-is, not-is, false-is, or-is, and-is    what a test says
+--     eqb-is, ltb-is, not-is, false-is, or-is, and-is            what a test says
 --     any-here, any-at, any-none, none-any, none-is              some number passes, or none does
 --     any-more, any-none-more, any-same, any-past                one number more; tests that agree; no number passes from n on
 --     all-intro, all-elim, all-not                               each number passes, or one does not
@@ -16,7 +16,7 @@ use Prim.Native.Nat.{ℕ, zero, suc, _+_, _-_, _≤_, _<_}
 use native.Mathlib.Nat.{eq-or-lt-of-le, le-of-suc-le-suc, add-zero}
 use native.Mathlib.Numerals.{add-one}
 use native.Mathlib.Omega.{arith}
-use borrow.Author.Tests.{leb-true, leb-false, le-leb, ltb-true, lt-ltb, eqb-true, eq-eqb}
+use borrow.Author.Tests.{leb-true, leb-false, ltb-true, lt-ltb, eqb-true, eq-eqb}
 use lib.Dec.{eqb, leb, ltb}
 use Rattle.laws.specs.Tests.{any, allFrom, run}
 
@@ -57,9 +57,6 @@ eqb-is a b = (eqb-true a b, eq-eqb a b)
 
 pub ltb-is : (a b : ℕ) → (ltb a b ≡ true) ↔ (a < b)
 ltb-is a b = (ltb-true a b, lt-ltb a b)
-
-pub leb-is : (a b : ℕ) → (leb a b ≡ true) ↔ (a ≤ b)
-leb-is a b = (leb-true a b, le-leb a b)
 
 module _ {P : Type 0} where
   pub not-is : (t : Bool) → (t ≡ true) ↔ P → (not t ≡ true) ↔ (P → ⊥)

@@ -12,12 +12,12 @@ use Prim.Native.Nat.{ℕ, suc, _+_, _-_, _/_, _%_, _^_, _≤_, _<_}
 use native.Mathlib.Nat.{eq-or-lt-of-le}
 use native.Mathlib.Omega.{arith}
 use borrow.Author.Tests.{eq-eqb, ne-eqb, ltb-false, le-ltb, ltb-true, not-false}
-use lib.Dec.{eqb, ltb, leb}
+use lib.Dec.{eqb, ltb}
 use lib.ListN.{length}
 use Rattle.laws.specs.Checks.{onlyIf}
 use Rattle.laws.specs.Tests.{any}
 use Rattle.laws.specs.CheckLaws.{not-to-true, not-to-false}
-use Rattle.laws.specs.TestLaws.{or-none-left, or-none-right, and-left, and-right, eqb-is, ltb-is, leb-is, not-is, false-is, or-is, and-is}
+use Rattle.laws.specs.TestLaws.{or-none-left, or-none-right, eqb-is, ltb-is, not-is, false-is, or-is, and-is}
 use Rattle.number.specs.Number.{numberAt}
 use Rattle.address.specs.Address.{top}
 use Rattle.answer.specs.Answer.{numberOf, isLoad, itemOf}
@@ -44,8 +44,7 @@ use Rattle.elf.specs.ElfLaws.{elf-good-is, headers-good-is, segments-apart-is}
 use Rattle.kernel.specs.declared.Kernel.{Kernel}
 use Rattle.kernel.specs.Checks.{entryChecks, extentsOverlap}
 use Rattle.image.specs.Load.{flagsAt, onPages, fieldsAt, loadOffset, loadLength, loadEnd, fullHeader}
-use Rattle.image.specs.Judged.{noHeader, offsetOf, unknownRequest, noAddresses, unknownKind, cutOff, beforeImage, nothingLeft, pastImage, bssBelow, headerOffset, headerFlags, headerFields, isAddressed, headerChecks, loadChecks, fieldChecks, kindChecks, imageChecks}
-use Rattle.image.specs.LoadLaws.{offset-inside}
+use Rattle.image.specs.Judged.{noHeader, offsetOf, unknownRequest, noAddresses, unknownKind, cutOff, beforeImage, pastImage, bssBelow, headerOffset, headerFlags, isAddressed, headerChecks, loadChecks, fieldChecks, kindChecks, imageChecks}
 use Rattle.image.specs.JudgedLaws.{fields-entry-is, elf-entry-is}
 use Rattle.memory_map.specs.Map.{badMap, mapChecks}
 use Rattle.memory_map.specs.PairsLaws.{map-good-is}
@@ -65,17 +64,15 @@ holdsIn x k = appliesFor (checks x) k
 -- the checks on address fields and their load, by the tests of the definitions
 module _ (image : List ℕ) (o : ℕ) (c : ℕ → Bool) where
   of-load : (offset len n : ℕ)
-      → c 11 ≡ nothingLeft (fieldsAt image o) offset n
       → c 12 ≡ pastImage (fieldsAt image o) offset len n
       → c 13 ≡ bssBelow (fieldsAt image o) (loadEnd (fieldsAt image o) len)
       → (c 14 ≡ true) ↔ ((fieldsAt image o .«entry_addr» .0 < fieldsAt image o .«load_addr» .0) ⊎ (loadEnd (fieldsAt image o) len ≤ fieldsAt image o .«entry_addr» .0))
       → OfLoad (fieldsAt image o) offset len n c
-  of-load offset len n e11 e12 e13 e14 =
+  of-load offset len n e12 e13 e14 =
       let h = fieldsAt image o in
       let end = h .«load_end_addr» .0 in
       let bss = h .«bss_end_addr» .0 in
       record {
-        c11 = rw e11 (and-is (eqb end 0) (leb n offset) (eqb-is end 0) (leb-is n offset));
         c12 = rw e12 (or-is (not (eqb end 0) && ltb end (h .«load_addr» .0)) (ltb n (offset + len)) (and-is (not (eqb end 0)) (ltb end (h .«load_addr» .0)) (not-is (eqb end 0) (eqb-is end 0)) (ltb-is end (h .«load_addr» .0))) (ltb-is n (offset + len)));
         c13 = rw e13 (and-is (not (eqb bss 0)) (ltb bss (h .«load_addr» .0 + len)) (not-is (eqb bss 0) (eqb-is bss 0)) (ltb-is bss (h .«load_addr» .0 + len)));
         c14 = e14;
@@ -135,7 +132,6 @@ module _ (x : Lent) where
         (made _ _ a ∙ ap (λ (i : ℕ). cutOff i n) e)
         (made _ _ a ∙ ap (λ (i : ℕ). beforeImage (fieldsAt image i) i) e)
         (of-load image o (holdsIn x) offset (loadLength (fieldsAt image o) offset n) n
-        (made _ _ a ∙ ap (λ (i : ℕ). nothingLeft (fieldsAt image i) (loadOffset (fieldsAt image i) i) n) e)
         (made _ _ a ∙ ap (λ (i : ℕ). pastImage (fieldsAt image i) (loadOffset (fieldsAt image i) i) (loadLength (fieldsAt image i) (loadOffset (fieldsAt image i) i) n) n) e)
         (made _ _ a ∙ ap (λ (i : ℕ). bssBelow (fieldsAt image i) (loadEnd (fieldsAt image i) (loadLength (fieldsAt image i) (loadOffset (fieldsAt image i) i) n))) e)
         (subst (λ (i : ℕ). (holdsIn x 14 ≡ true) ↔ ((fieldsAt image i .«entry_addr» .0 < fieldsAt image i .«load_addr» .0) ⊎ (loadEnd (fieldsAt image i) (loadLength (fieldsAt image i) (loadOffset (fieldsAt image i) i) n) ≤ fieldsAt image i .«entry_addr» .0))) e (fields-entry-is image a)))
@@ -147,7 +143,7 @@ module _ (x : Lent) where
     elfIn = elfKernel (imageIn x) (headerOffset (imageIn x)) (onPages (headerFlags (imageIn x)))
 
     at-elf : OfElf (imageIn x) (holdsIn x)
-    unfolding appliesFor onlyIf checks lentChecks submissionChecks operatorChecks windowChecks mapChecks headerChecks loadChecks fieldChecks kindChecks entryChecks elfChecks imageChecks
+    unfolding appliesFor onlyIf checks lentChecks submissionChecks operatorChecks windowChecks mapChecks headerChecks loadChecks fieldChecks kindChecks entryChecks elfChecks imageChecks kernelChecks roomChecks
     at-elf =
         let image = imageIn x in
         let o = headerOffset image in
@@ -159,7 +155,7 @@ module _ (x : Lent) where
           c19 = rw none (false-is (any (badNo image) (elfHeader image .«e_phnum»)) (headers-good-is image));
           c20 = rw none (false-is (extentsOverlap elfIn) (segments-apart-is image o pages));
           c14 = elf-entry-is image a;
-          no-fields = from-on P 9 13 (rw a) (from-on P 10 13 (rw a) (from-on P 11 13 (rw a) (from-on P 12 13 (rw a) (from-on P 13 13 (rw a) (λ k l m. absurd (omega arith))))));
+          no-fields = from-on P 9 13 (rw a) (from-on P 10 13 (rw a) (from-on P 11 13 refl (from-on P 12 13 (rw a) (from-on P 13 13 (rw a) (λ k l m. absurd (omega arith))))));
         }
 
   at-header : (o : ℕ) → headerOffset (imageIn x) ≡ o → OfHeader (imageIn x) o (holdsIn x)
@@ -254,28 +250,22 @@ module _ (x : Lent) where
         submission-good-is (x .submission) .0 (not-false _ (f .1 2 (rw numbers-are early))),
       )
 
-  -- where 11 would be given, 9 does not apply and the load begins inside the image
-  no-eleven : numberOf (decisionOf x .answer) ≡ 11 → ⊥
-  unfolding placeIn appliesFor onlyIf checks lentChecks submissionChecks operatorChecks windowChecks mapChecks headerChecks loadChecks fieldChecks kindChecks entryChecks elfChecks imageChecks kernelChecks roomChecks
-  no-eleven e =
-      let image = imageIn x in
-      let h = headerFields image in
-      let o = headerOffset image in
-      let n = length image in
-      let f = refusal-is 11 (omega arith) .0 e in
-      let early : Before 9 11 = omega arith in
-      let a = and-left (isAddressed image) (nothingLeft h (loadOffset h o) n) (f .0) in
-      let whole : cutOff o n ≡ false = sym (made _ _ a) ∙ f .1 9 early in
-      let none = and-right (eqb (h .«load_end_addr» .0) 0) (leb n (loadOffset h o)) (and-right (isAddressed image) (nothingLeft h (loadOffset h o) n) (f .0)) in
-      omega (arith, offset-inside h o n whole, leb-is n (loadOffset h o) .0 none)
+  -- a number that is not in the order of checks has no condition
+  other-none : (k : ℕ) → length checkOrder ≤ placeIn checkOrder k → holdsIn x k ≡ false
+  other-none k l = applies-other (checks x) k (rw numbers-are (omega (arith, checks-many)))
+
+  -- and is not given
+  not-given : {k : ℕ} → numberOf (decisionOf x .answer) ≡ k → 1 ≤ k → length checkOrder ≤ placeIn checkOrder k → ⊥
+  not-given {k} e l m = false≢true (sym (other-none k m) ∙ refusal-is k l .0 e .0)
 
   pub answered : (w : List ℕ) → Answered (decisionOf x) w (memoryAfter x w) (holdsIn x)
+  unfolding placeIn
   answered w =
       record {
         refusal = refusal-is;
         load = none-is;
-        other = λ k l. applies-other (checks x) k (rw numbers-are (omega (arith, checks-many)));
-        no-eleven = no-eleven;
+        other = other-none;
+        no-eleven = λ e. not-given e (omega arith) (omega arith);
         item = item-none (decisionOf x .answer);
         plan = refusal-plan;
         window = refusal-window w;

@@ -49,9 +49,8 @@ pub record Open (x : Lent) (a : ℕ) : Type 0 where
   pub usable : Usable (x .map) a
   pub window : (x .first ≤ a) × (a < x .first + x .size)
 
--- the conditions on the load by address fields, 11 to 14: h are the address fields, `len` bytes go from `offset` on, n is the image's length
+-- the conditions on the load by address fields, 12 to 14: h are the address fields, `len` bytes go from `offset` on, n is the image's length
 pub record OfLoad (h : AddressFields) (offset len n : ℕ) (c : ℕ → Bool) : Type 0 where
-  pub c11 : (c 11 ≡ true) ↔ ((h .«load_end_addr» .0 ≡ 0) × (n ≤ offset))
   pub c12 : (c 12 ≡ true) ↔ (((h .«load_end_addr» .0 ≡ 0 → ⊥) × (h .«load_end_addr» .0 < h .«load_addr» .0)) ⊎ (n < offset + len))
   pub c13 : (c 13 ≡ true) ↔ ((h .«bss_end_addr» .0 ≡ 0 → ⊥) × (h .«bss_end_addr» .0 < h .«load_addr» .0 + len))
   pub c14 : (c 14 ≡ true) ↔ ((h .«entry_addr» .0 < h .«load_addr» .0) ⊎ (h .«load_addr» .0 + len ≤ h .«entry_addr» .0))
@@ -100,7 +99,7 @@ pub record Answered (d : Decision) (w v : List ℕ) (c : ℕ → Bool) : Type 0 
   pub load : (numberOf (d .answer) ≡ 0) ↔ ((k : ℕ) → c k ≡ false)
   -- a number that is not in the order of checks has no condition, so that it is not given
   pub other : (k : ℕ) → length checkOrder ≤ placeIn checkOrder k → c k ≡ false
-  -- 11 is not given: where 9 does not hold the load begins inside the image, so that a byte is always left
+  -- 11 is such a number: no load with load_end_addr 0 is empty
   pub no-eleven : numberOf (d .answer) ≡ 11 → ⊥
   -- every answer but 16 has the item 0
   pub item : (numberOf (d .answer) ≡ 16 → ⊥) → itemOf (d .answer) ≡ 0

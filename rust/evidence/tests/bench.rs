@@ -6,7 +6,7 @@ use evidence::input::bench_cases::{bench, borders, BenchCase};
 use evidence::input::case::Case;
 use evidence::input::draft::Header;
 use evidence::loaders::{run, second, Outcome, PROVED};
-use evidence::rules::{reachable_numbers, words};
+use evidence::rules::{numbers, words};
 
 /// The outcome is what the rules name, and right by itself.
 fn meets(bench: &BenchCase, outcome: &Outcome) -> Result<(), String> {
@@ -48,7 +48,7 @@ fn borders_give_what_the_rules_name() {
 #[test]
 fn every_number_has_a_case() {
     let cases: Vec<BenchCase> = bench().into_iter().chain(borders()).collect();
-    for number in reachable_numbers() {
+    for number in numbers() {
         let has = cases.iter().any(|case| words(&case.decision)[0] == number);
         assert!(has, "no case for {number}");
     }

@@ -11,7 +11,7 @@ use evidence::compare::{same, sound};
 use evidence::input::case::Case;
 use evidence::input::generate;
 use evidence::loaders::{run, second, PROVED};
-use evidence::rules::reachable_numbers;
+use evidence::rules::numbers;
 use std::collections::BTreeMap;
 use std::env;
 use std::fs;
@@ -84,7 +84,7 @@ fn differs(case: &Case, what: &str) -> ExitCode {
 
 fn verdict(mut gaps: Vec<String>, agreed: &BTreeMap<u32, u64>, cases: u64) -> ExitCode {
     let least = LEAST_AGREEMENTS * cases / CASES;
-    for number in reachable_numbers() {
+    for number in numbers() {
         if agreed.get(&number).copied().unwrap_or(0) < least {
             gaps.push(format!("number {number} address by address"));
         }

@@ -5,7 +5,7 @@ use evidence::input::case::Case;
 use evidence::input::generate;
 use evidence::loaders::second;
 use evidence::rules::limits::ELF_MARK;
-use evidence::rules::reachable_numbers;
+use evidence::rules::numbers;
 
 #[test]
 fn a_case_depends_on_seed_and_index_alone() {
@@ -40,7 +40,7 @@ fn submissions_for_the_review_program_give_most_numbers() {
     let begin = |with: &str| texts.iter().any(|text| text.starts_with(with));
     assert!(begin("kernel "));
     // A load is no refusal, and the operator's line, the window and the map are fixed.
-    for number in reachable_numbers().filter(|n| ![0, 3, 4, 5].contains(n)) {
+    for number in numbers().filter(|n| ![0, 3, 4, 5].contains(n)) {
         assert!(begin(&format!("refused {number} ")), "no {number}");
     }
 }

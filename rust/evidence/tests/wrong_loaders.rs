@@ -118,6 +118,15 @@ fn writes_before_it_refuses(case: &Case, window: &mut [u8]) -> Words {
     words
 }
 
+/// Gives 11, the number of no answer, for 14.
+fn gives_eleven(case: &Case, window: &mut [u8]) -> Words {
+    let mut words = second::load(case, window);
+    if words[0] == Refusal::EntryOutsideLoad.number() {
+        words[0] = 11;
+    }
+    words
+}
+
 /// Does a judge find fault with what the loader leaves behind in some case?
 fn caught(loader: Loader, is_wrong: fn(&Case, &Outcome) -> bool) -> bool {
     let mut cases = (0..CASES).map(|index| generate::case(1, index));
@@ -140,7 +149,7 @@ fn by_address(case: &Case, outcome: &Outcome) -> bool {
 }
 
 /// Their loads and refusals show that they are wrong.
-const WRONG_BY_THEMSELVES: [(&str, Loader); 9] = [
+const WRONG_BY_THEMSELVES: [(&str, Loader); 10] = [
     ("always_the_same_plan", always_the_same_plan),
     ("never_writes", never_writes),
     ("copies_the_first_module_alone", copies_the_first_module_alone),
@@ -150,6 +159,7 @@ const WRONG_BY_THEMSELVES: [(&str, Loader); 9] = [
     ("clears_a_byte_behind_the_bss", clears_a_byte_behind_the_bss),
     ("invents_mods_count", invents_mods_count),
     ("writes_before_it_refuses", writes_before_it_refuses),
+    ("gives_eleven", gives_eleven),
 ];
 
 /// Only another reading of the rules shows that they are wrong.

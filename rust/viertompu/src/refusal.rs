@@ -56,7 +56,7 @@ refusals! {
     8 NoAddressFields "the header's flag bit 16 is clear, and the image does not begin with the ELF mark",
     9 HeaderCutOff "the 32 bytes of header and address fields do not lie inside both the image and its first 8,192 bytes",
     10 LoadBeforeImage "load_addr is above header_addr, or their difference is above the header's offset",
-    11 NothingToLoad "load_end_addr is 0, and no byte of the image is left from the load offset on",
+    // 11 is not given
     12 LoadPastImage "load_end_addr is not 0 and below load_addr, or the load ends beyond the image",
     13 BssBelowLoadEnd "bss_end_addr is not 0 and below the load end",
     18 BadElf "the ELF image is under 52 bytes, is not of class 1, data 1, type 2, machine 3 and entry size 32, has its table beyond the image or over 16 entries in it, or has no segment",

@@ -4,10 +4,9 @@ use mathlib.Core.Path.{_∙_}
 use native.Mathlib.Omega.{arith}
 use borrow.Author.Needs.{needs}
 use lib.ListN.{length}
-use Rattle.header.specs.HeaderLaws.{header-lowest}
 use Rattle.laws.specs.CheckLaws.{told}
 use Rattle.image.specs.LoadLaws.{not-cut-off}
-use Rattle.image.proofs.RefusalLaws.{WholeHeader, cut-off, before-image, load-left, offset-below}
+use Rattle.image.proofs.RefusalLaws.{WholeHeader, cut-off, before-image, load-inside, load-left}
 use Rattle.image.proofs.judge_fields.Statement.{statement}
 use Rattle.image.proofs.judge_fields.Tie as tie
 
@@ -57,9 +56,8 @@ judge-load-requires c κs =
     let one = c .before in
     let at-offset = one .before .before in
     let fields = at-offset .before in
-    let below = offset-below (fields .read-fields .result) (start fields .args .at) (one .offset .given .0 .0) (at-offset .load-offset .result) (at-offset .load-offset .ensures) (one .offset .given .1) in
-    let early = header-lowest (start fields .args .image .now) (start fields .args .at) (start fields .pre .0) .0 .early in
-    (fields .read-fields .ensures .1, omega (arith, early), omega (arith, start fields))
+    let inside = load-inside (whole fields) (at-offset .load-offset .result) (at-offset .load-offset .ensures) (one .offset .given .0 .0) (one .offset .given .1) in
+    (fields .read-fields .ensures .1, inside, omega (arith, start fields))
 
 returns-2 : tie.Need-returns-2
 returns-2 c =

@@ -15,7 +15,7 @@ pub mod printed;
 
 use crate::input::case::Case;
 use crate::loaders::Outcome;
-use crate::rules::{reachable_numbers, words};
+use crate::rules::{numbers, words};
 use viertompu::read_words;
 
 /// Says where two outcomes of a case first differ.
@@ -38,7 +38,7 @@ pub fn same(case: &Case, one: &Outcome, other: &Outcome) -> Result<(), String> {
 /// Is the outcome right by itself? A refusal leaves an all-zero plan and the window as it was;
 /// a load hands over what the submission holds.
 pub fn sound(case: &Case, outcome: &Outcome) -> Result<(), String> {
-    if !reachable_numbers().any(|number| number == outcome.words[0]) {
+    if !numbers().any(|number| number == outcome.words[0]) {
         return Err("no such number".into());
     }
     let decision = read_words(&outcome.words);

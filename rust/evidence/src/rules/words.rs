@@ -5,12 +5,9 @@ use viertompu::{Plan, Refusal, Words, WORDS};
 
 pub type Decision = Result<Plan, Refusal>;
 
-/// The numbers that some input gives, in the order of the checks. None gives 11: the header found
-/// lies in the image, and not before the load offset.
-pub fn reachable_numbers() -> impl Iterator<Item = u32> {
-    let refusals = Refusal::NUMBERS.iter().copied();
-    let unreachable = Refusal::NothingToLoad.number();
-    once(0).chain(refusals.filter(move |&number| number != unreachable))
+/// The numbers of the answers, in the order of the checks.
+pub fn numbers() -> impl Iterator<Item = u32> {
+    once(0).chain(Refusal::NUMBERS.iter().copied())
 }
 
 /// The words of a decision. Those of a refusal are its number and item, and zeros.

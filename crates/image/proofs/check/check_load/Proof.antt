@@ -9,50 +9,37 @@ use Rattle.image.proofs.check.check_load.Tie as tie
 load-end-requires : tie.Need-load-end-requires
 load-end-requires c κs = search needs
 
-nothing-left-requires : tie.Need-nothing-left-requires
-nothing-left-requires c κs = search needs
-
-returns : tie.Need-returns
-unfolding loadChecks
-returns c = search (chain, told (c .before .nothing-left .ensures) (c .if1 .taken)) depth 20
-
 past-image-requires : tie.Need-past-image-requires
 past-image-requires c κs = search needs
 
-returns-2 : tie.Need-returns-2
+returns : tie.Need-returns
 unfolding loadChecks
-returns-2 c =
-    let at1 = c .before .before in
-    search (chain, told (at1 .before .nothing-left .ensures) (at1 .if1 .left), told (c .before .past-image .ensures) (c .if2 .taken)) depth 20
+returns c = search (chain, told (c .before .past-image .ensures) (c .if1 .taken)) depth 20
 
 bss-below-requires : tie.Need-bss-below-requires
 bss-below-requires c κs = search needs
 
+returns-2 : tie.Need-returns-2
+unfolding loadChecks
+returns-2 c =
+    let first = c .before .before in
+    let end = first .before .before .load-end .ensures in
+    search (chain, told (first .before .past-image .ensures) (first .if1 .left), rw end at (told (c .before .bss-below .ensures) (c .if2 .taken))) depth 20
+
 returns-3 : tie.Need-returns-3
 unfolding loadChecks
 returns-3 c =
-    let at2 = c .before .before in
-    let at1 = at2 .before .before in
-    let end = at1 .before .before .load-end .ensures in
-    search (chain, told (at1 .before .nothing-left .ensures) (at1 .if1 .left), told (at2 .before .past-image .ensures) (at2 .if2 .left), rw end at (told (c .before .bss-below .ensures) (c .if3 .taken))) depth 20
-
-returns-4 : tie.Need-returns-4
-unfolding loadChecks
-returns-4 c =
-    let at2 = c .before .before in
-    let at1 = at2 .before .before in
-    let end = at1 .before .before .load-end .ensures in
-    search (chain, told (at1 .before .nothing-left .ensures) (at1 .if1 .left), told (at2 .before .past-image .ensures) (at2 .if2 .left), rw end at (told (c .before .bss-below .ensures) (c .if3 .left))) depth 20
+    let first = c .before .before in
+    let end = first .before .before .load-end .ensures in
+    search (chain, told (first .before .past-image .ensures) (first .if1 .left), rw end at (told (c .before .bss-below .ensures) (c .if2 .left))) depth 20
 
 pub check-load-spec : {M : Type 1} → statement M
 check-load-spec =
     tie.close
     (tie.spec
     load-end-requires
-    nothing-left-requires
-    returns
     past-image-requires
-    returns-2
+    returns
     bss-below-requires
-    returns-3
-    returns-4)
+    returns-2
+    returns-3)

@@ -7,7 +7,8 @@ use crate::loaders::model::{Board, Reading};
 use crate::loaders::Outcome;
 use crate::rules::bytes::u32_at;
 use crate::rules::limits::{
-    ADDRESS_FIELDS, ELF_MARK, FLOOR, HEADER_MAGIC, MAX_LINE, MAX_MEM_LOWER, MAX_STRING, WORD,
+    ADDRESS_FIELDS, ELF_MARK, FLOOR, FULL_HEADER, HEADER_MAGIC, MAX_LINE, MAX_MEM_LOWER,
+    MAX_STRING, WORD,
 };
 use crate::rules::offsets::{header, structure};
 use viertompu::{Plan, Segment, Span};
@@ -41,12 +42,14 @@ impl Load<'_> {
     }
 
     fn field_goals(&self) -> Vec<Goal> {
-        let load_end = u64::from(self.plan.segments[0].load_end);
+        let Segment { start, load_end, .. } = self.plan.segments[0];
+        let (load_end, loaded) = (u64::from(load_end), (load_end - start) as usize);
         let load_end_addr = self.header_word(header::LOAD_END_ADDR);
         let bss_end_addr = self.header_word(header::BSS_END_ADDR);
         let image = self.reading.submission.image;
         vec![
             ("loaded with load_end_addr 0", load_end_addr == 0),
+            ("loaded with the header alone left", load_end_addr == 0 && loaded == FULL_HEADER),
             ("loaded with a load_end_addr", load_end_addr != 0),
             ("loaded with bss_end_addr at the load end", bss_end_addr == load_end),
             ("loaded with a bss", bss_end_addr > load_end),

@@ -8,7 +8,7 @@ use crate::input::case::Case;
 use crate::loaders::model::{self, Reading, Rule};
 use crate::loaders::Outcome;
 use crate::rules::limits::{MAX_LINE, MAX_MAP, MAX_MODULES, TOP};
-use crate::rules::reachable_numbers;
+use crate::rules::numbers;
 use board::OnBoard;
 use load::Load;
 use std::collections::BTreeMap;
@@ -75,7 +75,7 @@ impl Coverage {
         }
     }
 
-    /// What came less often than a hundred times in 200,000 cases, or may not come at all.
+    /// What came less often than a hundred times in 200,000 cases.
     pub fn gaps(&self) -> Vec<String> {
         let least = self.cases / 2000;
         let mut gaps = Vec::new();
@@ -85,7 +85,7 @@ impl Coverage {
                 gaps.push(format!("{what}: {count} times, not {least}"));
             }
         };
-        for number in reachable_numbers() {
+        for number in numbers() {
             demand(format!("number {number}"), self.numbers.get(&number));
         }
         for count in 0..=MAX_MODULES {
@@ -100,9 +100,6 @@ impl Coverage {
         for (goal, count) in &self.goals {
             demand(goal.to_string(), Some(count));
         }
-        let unreachable = |number: &&u32| !reachable_numbers().any(|n| n == **number);
-        let strays = self.numbers.keys().filter(unreachable);
-        gaps.extend(strays.map(|number| format!("number {number}, which no input gives")));
         gaps
     }
 }

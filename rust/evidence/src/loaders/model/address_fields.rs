@@ -82,9 +82,6 @@ impl Header {
         ];
         check(Refusal::LoadBeforeImage, before)?;
 
-        let nothing = load_end_addr == 0 && self.load_offset() >= self.image_length;
-        check(Refusal::NothingToLoad, [rule("no image byte left to load", nothing)])?;
-
         let load_end_offset = self.load_offset() + self.load_length();
         let past = [
             rule("load_end_addr below load_addr", load_end_addr != 0 && load_end_addr < load_addr),

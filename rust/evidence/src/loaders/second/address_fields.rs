@@ -55,15 +55,16 @@ fn load_offset(fields: &AddressFields, header_offset: ImageOffset) -> Option<Ima
     header_offset.0.checked_sub(distance).map(ImageOffset)
 }
 
-/// The load bytes (checks 11 and 12).
+/// The load bytes (check 12). Where load_end_addr is 0 they are never none: the whole header lies
+/// in the image, and the load begins there or before.
 fn load_bytes<'a>(
     fields: &AddressFields,
     from: ImageOffset,
     image: &'a [u8],
 ) -> Result<&'a [u8], Refusal> {
     if fields.load_end_addr == 0 {
-        let left = (image.len() as u64).checked_sub(from.0).filter(|&left| left != 0);
-        return left.and_then(|left| from.bytes(image, left)).ok_or(Refusal::NothingToLoad);
+        assert!(from.0 < image.len() as u64, "a byte is left to load");
+        return Ok(&image[from.0 as usize..]);
     }
     let length = fields.load_end_addr.checked_sub(fields.load_addr);
     length.and_then(|length| from.bytes(image, length)).ok_or(Refusal::LoadPastImage)
