@@ -53,6 +53,7 @@ extern "C" {
     ANSWER(VIERTOMPU_BAD_MEMORY_MAP, 5, "the map is empty, over 4,096 bytes, has over 32 pairs, or a pair has a size under 20 or runs past the map's end") \
     ANSWER(VIERTOMPU_NO_HEADER, 6, "the image has no header") \
     ANSWER(VIERTOMPU_UNKNOWN_REQUEST, 7, "one of the header's flag bits 2 to 15 is set") \
+    ANSWER(VIERTOMPU_UNDEFINED_BITS, 25, "one of the header's flag bits 17 to 31 is set") \
     ANSWER(VIERTOMPU_NO_ADDRESS_FIELDS, 8, "the header's flag bit 16 is clear, and the image does not begin with the ELF mark") \
     ANSWER(VIERTOMPU_HEADER_CUT_OFF, 9, "the 32 bytes of header and address fields do not lie inside both the image and its first 8,192 bytes") \
     ANSWER(VIERTOMPU_LOAD_BEFORE_IMAGE, 10, "load_addr is above header_addr, or their difference is above the header's offset") \

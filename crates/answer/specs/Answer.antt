@@ -8,7 +8,7 @@ use mathlib.Core.Bool.{Bool, cond}
 use Prim.Native.Nat.{ℕ}
 use lib.Dec.{eqb}
 use Rattle.answer.specs.declared.Answer.{Answer}
-use Rattle.answer.specs.declared.Answer.the-variants.{Load, NotASubmission, BadSubmission, BadOperatorLine, WindowPastTop, BadMemoryMap, NoHeader, UnknownRequest, NoAddressFields, HeaderCutOff, LoadBeforeImage, LoadPastImage, BssBelowLoadEnd, BadElf, BadProgramHeader, SegmentsOverlap, EntryOutsideLoad, KernelNotOpen, NoRoomForModule, NoRoomForBlock}
+use Rattle.answer.specs.declared.Answer.the-variants.{Load, NotASubmission, BadSubmission, BadOperatorLine, WindowPastTop, BadMemoryMap, NoHeader, UnknownRequest, UndefinedBits, NoAddressFields, HeaderCutOff, LoadBeforeImage, LoadPastImage, BssBelowLoadEnd, BadElf, BadProgramHeader, SegmentsOverlap, EntryOutsideLoad, KernelNotOpen, NoRoomForModule, NoRoomForBlock}
 
 abbrev pub numberOf : Answer → ℕ
 numberOf Load = 0
@@ -19,6 +19,7 @@ numberOf WindowPastTop = 4
 numberOf BadMemoryMap = 5
 numberOf NoHeader = 6
 numberOf UnknownRequest = 7
+numberOf UndefinedBits = 25
 numberOf NoAddressFields = 8
 numberOf HeaderCutOff = 9
 numberOf LoadBeforeImage = 10
@@ -41,6 +42,7 @@ itemOf WindowPastTop = 0
 itemOf BadMemoryMap = 0
 itemOf NoHeader = 0
 itemOf UnknownRequest = 0
+itemOf UndefinedBits = 0
 itemOf NoAddressFields = 0
 itemOf HeaderCutOff = 0
 itemOf LoadBeforeImage = 0

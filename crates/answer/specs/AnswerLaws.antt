@@ -1,13 +1,13 @@
 -- Laws of the numbered answers.
 --     item-none      every answer but 16 has the item 0
---     number-most    no number is above 20
+--     number-most    no number is above 25
 -- Assumes nothing.
 use mathlib.Core.Path.{_≡_, refl}
 use Prim.Native.Nat.{_≤_}
 use native.Mathlib.Omega.{arith}
 use Rattle.answer.specs.Answer.{numberOf, itemOf}
 use Rattle.answer.specs.declared.Answer.{Answer}
-use Rattle.answer.specs.declared.Answer.the-variants.{Load, NotASubmission, BadSubmission, BadOperatorLine, WindowPastTop, BadMemoryMap, NoHeader, UnknownRequest, NoAddressFields, HeaderCutOff, LoadBeforeImage, LoadPastImage, BssBelowLoadEnd, BadElf, BadProgramHeader, SegmentsOverlap, EntryOutsideLoad, KernelNotOpen, NoRoomForModule, NoRoomForBlock}
+use Rattle.answer.specs.declared.Answer.the-variants.{Load, NotASubmission, BadSubmission, BadOperatorLine, WindowPastTop, BadMemoryMap, NoHeader, UnknownRequest, UndefinedBits, NoAddressFields, HeaderCutOff, LoadBeforeImage, LoadPastImage, BssBelowLoadEnd, BadElf, BadProgramHeader, SegmentsOverlap, EntryOutsideLoad, KernelNotOpen, NoRoomForModule, NoRoomForBlock}
 
 pub item-none : (a : Answer) → (numberOf a ≡ 16 → ⊥) → itemOf a ≡ 0
 item-none Load h = refl
@@ -18,6 +18,7 @@ item-none WindowPastTop h = refl
 item-none BadMemoryMap h = refl
 item-none NoHeader h = refl
 item-none UnknownRequest h = refl
+item-none UndefinedBits h = refl
 item-none NoAddressFields h = refl
 item-none HeaderCutOff h = refl
 item-none LoadBeforeImage h = refl
@@ -31,7 +32,7 @@ item-none KernelNotOpen h = refl
 item-none (NoRoomForModule i) h = absurd (h refl)
 item-none NoRoomForBlock h = refl
 
-pub number-most : (a : Answer) → numberOf a ≤ 20
+pub number-most : (a : Answer) → numberOf a ≤ 25
 number-most Load = omega arith
 number-most NotASubmission = omega arith
 number-most BadSubmission = omega arith
@@ -40,6 +41,7 @@ number-most WindowPastTop = omega arith
 number-most BadMemoryMap = omega arith
 number-most NoHeader = omega arith
 number-most UnknownRequest = omega arith
+number-most UndefinedBits = omega arith
 number-most NoAddressFields = omega arith
 number-most HeaderCutOff = omega arith
 number-most LoadBeforeImage = omega arith

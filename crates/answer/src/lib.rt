@@ -20,6 +20,8 @@ pub enum Answer {
     NoHeader,
     // 7: one of the header's flag bits 2 to 15 is set
     UnknownRequest,
+    // 25: one of the header's flag bits 17 to 31 is set
+    UndefinedBits,
     // 8: the header's flag bit 16 is clear, and the image does not begin with the ELF mark
     NoAddressFields,
     // 9: the 32 bytes of header and address fields do not lie inside both the image and its first 8,192 bytes
@@ -60,6 +62,7 @@ pub fn number(a: Answer) -> u32
         Answer::BadMemoryMap => 5,
         Answer::NoHeader => 6,
         Answer::UnknownRequest => 7,
+        Answer::UndefinedBits => 25,
         Answer::NoAddressFields => 8,
         Answer::HeaderCutOff => 9,
         Answer::LoadBeforeImage => 10,

@@ -181,6 +181,9 @@ rows =
     -- flags 0 has the checksum 0xE4524FFE, and 0x00010001 has 0xE4514FFD: headers, but without address fields, or cut off
     record { bytes = 12; place = 0; words = headerMagic ∷ 0 ∷ 0xE4524FFE ∷ []; hello = false; string = 0; line = 0; low = 0x9FC00; window = 0xC000 } yields refusal 8 0
     ∷ record { bytes = 12; place = 0; words = headerMagic ∷ 0x00010001 ∷ 0xE4514FFD ∷ []; hello = false; string = 0; line = 0; low = 0x9FC00; window = 0xC000 } yields refusal 9 0
+    -- undefined flag bits, where there are no address fields either, and with a sum of 2^33
+    ∷ record { bytes = 12; place = 0; words = headerMagic ∷ 0x00020000 ∷ 0xE4504FFE ∷ []; hello = false; string = 0; line = 0; low = 0x9FC00; window = 0xC000 } yields refusal 25 0
+    ∷ record { bytes = 12; place = 0; words = headerMagic ∷ 0xFFFF0001 ∷ 0xE4534FFD ∷ []; hello = false; string = 0; line = 0; low = 0x9FC00; window = 0xC000 } yields refusal 25 0
     -- the last place that is searched, and the next
     ∷ record { bytes = 9000; place = 8180; words = headerMagic ∷ 0 ∷ 0xE4524FFE ∷ []; hello = false; string = 0; line = 0; low = 0x9FC00; window = 0xC000 } yields refusal 8 0
     ∷ record { bytes = 9000; place = 8184; words = headerMagic ∷ 0 ∷ 0xE4524FFE ∷ []; hello = false; string = 0; line = 0; low = 0x9FC00; window = 0xC000 } yields refusal 6 0

@@ -25,7 +25,7 @@ use Rattle.decision.specs.Decided.{placedBy, memoryChecks, memoryPlan, d
 abbrev pub placedIn : Lent → Placed
 placedIn x = placedBy (boardIn x) (kernelIn x) (layoutIn x) (blockLengthIn x)
 
--- 1 and 2, 3, 4, 5, then those on the image: 6 to 8, 9 to 13 or 18 to 20, and 14
+-- 1 and 2, 3, 4, 5, then those on the image: 6, 7, 25 and 8, 9 to 13 or 18 to 20, and 14
 unfoldable pub lentChecks : Lent → List (Check Answer)
 lentChecks x =
     submissionChecks (x .submission)

@@ -2,16 +2,19 @@
 --     found-at, passed-at, none-left    a header at a place, none there, and too few bytes left
 --     whole-image, first-part           the part that is searchLimit
 --     other-magic, by-sum               the test of three words
+--     two-sums                          the sums that pass it
 -- Assumes nothing.
 use mathlib.Core.Path.{_≡_, refl, ap, sym}
 use mathlib.Core.Bool.{true, false}
 use mathlib.Core.List.{List, [], _∷_}
+use mathlib.Core.Logic.{_↔_, ⊎-elim, _⊎_, inl, inr}
 use Prim.Native.Nat.{ℕ, _+_, _*_, _%_, _^_, _≤_, _<_}
 use native.Mathlib.Omega.{arith}
-use borrow.Author.Tests.{eq-eqb, ne-eqb}
+use borrow.Author.Tests.{eqb-true, eq-eqb, ne-eqb}
 use lib.Dec.{eqb}
 use lib.ListN.{length, take, drop, length-drop}
 use lib.Seq.{drop-drop, take-all}
+use Rattle.laws.specs.TestLaws.{lt-or-le}
 use Rattle.number.specs.Number.{number, numberAt}
 use Rattle.header.specs.declared.Search.the-variants.{At, Nothing}
 use Rattle.header.specs.Header.{headerMagic, searchLimit, shortHeader, words, isHeader, headerFrom, header}
@@ -96,3 +99,16 @@ unfolding isHeader
 by-sum m f k s t e p q =
     let z : t ≡ (m + f + k) % 2 ^ 32 = omega arith in
     rw (eq-eqb m headerMagic e, z)
+
+-- two words make a header with the magic exactly where the sum is 2^32 or, as high flags have it, 2^33
+pub two-sums : (f k : ℕ) → f < 2 ^ 32 → k < 2 ^ 32 → (isHeader headerMagic f k ≡ true) ↔ ((headerMagic + f + k ≡ 2 ^ 32) ⊎ (headerMagic + f + k ≡ 2 ^ 33))
+unfolding isHeader
+two-sums f k l m = (
+  λ t.
+      let z : (headerMagic + f + k) % 2 ^ 32 ≡ 0 = eqb-true _ _ t in
+      ⊎-elim
+      (λ (n : headerMagic + f + k < 2 ^ 33). inl (omega arith))
+      (λ (n : 2 ^ 33 ≤ headerMagic + f + k). inr (omega arith))
+      (lt-or-le (headerMagic + f + k) (2 ^ 33)),
+  λ e. eq-eqb ((headerMagic + f + k) % 2 ^ 32) 0 (⊎-elim (λ (n : headerMagic + f + k ≡ 2 ^ 32). omega arith) (λ (n : headerMagic + f + k ≡ 2 ^ 33). omega arith) e),
+)

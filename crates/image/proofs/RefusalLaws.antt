@@ -1,10 +1,11 @@
 -- Which check refuses an image whose header was found, in the words of the code's tests.
---     no-header, unknown-request, unknown-kind    checks 6 to 8
---     kind-judged                                 the checks on the kind and on the entry are left
---     by-elf, by-address                          the kind is chosen by the flags
---     cut-off, before-image                       checks 9 and 10
---     load-inside, load-left                      the load begins inside the image, and the checks on it are left
---     length-fits, one-few                        how long a load is at most, and that one segment is not too many
+--     no-header, unknown-request, undefined-bits, unknown-kind
+--                               checks 6, 7, 25 and 8
+--     kind-judged               the checks on the kind and on the entry are left
+--     by-elf, by-address        the kind is chosen by the flags
+--     cut-off, before-image     checks 9 and 10
+--     load-inside, load-left    the load begins inside the image, and the checks on it are left
+--     length-fits, one-few      how long a load is at most, and that one segment is not too many
 -- Assumes nothing.
 use mathlib.Core.Path.{_≡_, refl, sym, _∙_}
 use mathlib.Core.Bool.{Bool, true, false, cond}
@@ -19,7 +20,7 @@ use Rattle.address.specs.declared.ImageOffset.{ImageOffset}
 use Rattle.answer.specs.Answer.{isLoad, orElse}
 use Rattle.answer.specs.ChainLaws.{chain-append, or-else-first, or-else-second}
 use Rattle.answer.specs.declared.Answer.{Answer}
-use Rattle.answer.specs.declared.Answer.the-variants.{Load, NoHeader, UnknownRequest, NoAddressFields, HeaderCutOff, LoadBeforeImage}
+use Rattle.answer.specs.declared.Answer.the-variants.{Load, NoHeader, UnknownRequest, UndefinedBits, NoAddressFields, HeaderCutOff, LoadBeforeImage}
 use Rattle.header.specs.declared.Search.{Search}
 use Rattle.header.specs.declared.Search.the-variants.{At, Nothing}
 use Rattle.header.specs.Header.{header}
@@ -31,7 +32,7 @@ use Rattle.elf.specs.Checks.{elfChecks}
 use Rattle.image.specs.declared.load.AddressFields.{AddressFields}
 use Rattle.image.specs.Load.{flagsAt, fieldsAt, onPages, loadOffset, loadLength}
 use Rattle.image.specs.Narrow.{Narrow}
-use Rattle.image.specs.Judged.{unknownRequest, noAddresses, unknownKind, cutOff, beforeImage, headerFlags, isAddressed, headerChecks, loadChecks, fieldChecks, kindChecks, imageChecks, kernelFor, fieldsKernel, kernelOf}
+use Rattle.image.specs.Judged.{unknownRequest, undefinedBits, noAddresses, unknownKind, cutOff, beforeImage, headerFlags, isAddressed, headerChecks, loadChecks, fieldChecks, kindChecks, imageChecks, kernelFor, fieldsKernel, kernelOf}
 use Rattle.image.specs.Judge.{judged}
 use Rattle.image.specs.LoadLaws.{offset-inside}
 use Rattle.image.specs.JudgedLaws.{header-refuses, front-refuses, kind-fields, kind-elf, kernel-fields, kernel-elf}
@@ -72,19 +73,23 @@ module _ {image : List ℕ} {at : ImageOffset} {flags : ℕ} (r : FlagsFound ima
   unfolding headerChecks
   unknown-request t = header-refused UnknownRequest image refl (rw (r .found, ← r .read) (search chain depth 20))
 
-  pub unknown-kind : unknownRequest flags ≡ false → unknownKind image flags ≡ true → refused NoAddressFields ≡ judged image
+  pub undefined-bits : unknownRequest flags ≡ false → undefinedBits flags ≡ true → refused UndefinedBits ≡ judged image
   unfolding headerChecks
-  unknown-kind u t = header-refused NoAddressFields image refl (rw (r .found, ← r .read) (search chain depth 20))
+  undefined-bits u t = header-refused UndefinedBits image refl (rw (r .found, ← r .read) (search chain depth 20))
 
-  header-passed : unknownRequest flags ≡ false → unknownKind image flags ≡ false → Load ≡ firstOf (headerChecks image) Load
+  pub unknown-kind : unknownRequest flags ≡ false → undefinedBits flags ≡ false → unknownKind image flags ≡ true → refused NoAddressFields ≡ judged image
   unfolding headerChecks
-  header-passed u t = rw (r .found, ← r .read) (search chain depth 20)
+  unknown-kind u d t = header-refused NoAddressFields image refl (rw (r .found, ← r .read) (search chain depth 20))
+
+  header-passed : unknownRequest flags ≡ false → undefinedBits flags ≡ false → unknownKind image flags ≡ false → Load ≡ firstOf (headerChecks image) Load
+  unfolding headerChecks
+  header-passed u d t = rw (r .found, ← r .read) (search chain depth 20)
 
   -- the checks on the kind and on the entry are left
-  pub kind-judged : unknownRequest flags ≡ false → unknownKind image flags ≡ false → withEntry (firstOf (kindChecks image) Load) (kernelOf image) ≡ judged image
+  pub kind-judged : unknownRequest flags ≡ false → undefinedBits flags ≡ false → unknownKind image flags ≡ false → withEntry (firstOf (kindChecks image) Load) (kernelOf image) ≡ judged image
   unfolding judged
-  kind-judged u t =
-      let h = header-passed u t in
+  kind-judged u d t =
+      let h = header-passed u d t in
       let q : firstOf (imageChecks image) Load ≡ orElse (firstOf (kindChecks image) Load) (firstOf (entryChecks (kernelOf image)) Load) =
       image-chain image ∙ rw (← h, or-else-second Load (firstOf (kindChecks image) Load) refl) refl in
       rw q

@@ -1,7 +1,9 @@
--- The answer for an image, and its kernel.                                rules: ANSWERS (6 to 14), KERNEL
+-- The answer for an image, and its kernel.                                rules: ANSWERS (6 to 14, 25), KERNEL
 --     noHeader, offsetOf    what the header search found: 6
---     unknownRequest, noAddresses, unknownKind, cutOff, beforeImage, pastImage, bssBelow
---                                            the conditions of 7 to 13
+--     unknownRequest, undefinedBits, noAddresses, unknownKind
+--                                            the conditions of 7, 25 and 8
+--     cutOff, beforeImage, pastImage, bssBelow
+--                                            the conditions of 9 to 13
 --     headerOffset, headerFlags, headerFields, firstLoaded, countLoaded
 --                                            what an image's header says
 --     segmentFor, kernelFor, fieldsKernel    the kernel of an image with address fields
@@ -17,7 +19,7 @@ use lib.Dec.{eqb, ltb}
 use lib.ListN.{length}
 use Rattle.laws.specs.Checks.{Check, onlyIf, _gives_}
 use Rattle.answer.specs.declared.Answer.{Answer}
-use Rattle.answer.specs.declared.Answer.the-variants.{NoHeader, UnknownRequest, NoAddressFields, HeaderCutOff, LoadBeforeImage, LoadPastImage, BssBelowLoadEnd}
+use Rattle.answer.specs.declared.Answer.the-variants.{NoHeader, UnknownRequest, UndefinedBits, NoAddressFields, HeaderCutOff, LoadBeforeImage, LoadPastImage, BssBelowLoadEnd}
 use Rattle.header.specs.declared.Search.{Search}
 use Rattle.header.specs.declared.Search.the-variants.{At, Nothing}
 use Rattle.header.specs.Header.{searchLimit, header}
@@ -44,6 +46,10 @@ offsetOf (At o) = o .0
 -- 7: any of header flag bits 2 to 15 set
 abbrev pub unknownRequest : ℕ → Bool
 unknownRequest flags = not (eqb (flags / 2 ^ 2 % 2 ^ 14) 0)
+
+-- 25: any of header flag bits 17 to 31 set
+abbrev pub undefinedBits : ℕ → Bool
+undefinedBits flags = not (eqb (flags / 2 ^ 17 % 2 ^ 15) 0)
 
 -- bit 16 clear
 abbrev pub noAddresses : ℕ → Bool
@@ -105,11 +111,12 @@ isAddressed image = not (noAddresses (headerFlags image))
 unfoldable pub kernelOf : List ℕ → Kernel
 kernelOf image = cond (isAddressed image) (fieldsKernel image) (elfKernel image (headerOffset image) (onPages (headerFlags image)))
 
--- the checks on the header: 6 to 8
+-- the checks on the header: 6, 7, 25 and 8
 unfoldable pub headerChecks : List ℕ → List (Check Answer)
 headerChecks image =
     noHeader (header image) gives NoHeader
     ∷ unknownRequest (headerFlags image) gives UnknownRequest
+    ∷ undefinedBits (headerFlags image) gives UndefinedBits
     ∷ unknownKind image (headerFlags image) gives NoAddressFields
     ∷ []
 

@@ -1,7 +1,7 @@
 -- What is known of an image that no check refuses, and of the kernel that it asks for.
 --     judged-answer, judged-load                          the parts of the answer for an image
 --     header-, kind-, front-, entry-, image-refuses       the checks on it refuse
---     high-bits                                           flag bits that are ignored
+--     high-sum                                            a header whose sum is 2^33
 --     kind-fields, kind-elf, kernel-fields, kernel-elf    which checks the flags choose, and which kernel
 --     ImagePassed, image-passed                           no check applies
 --     FieldsPassed, fields-passed                         none of those on address fields applies
@@ -13,7 +13,7 @@ use mathlib.Core.Path.{_≡_, refl, ap, sym, subst, _∙_}
 use mathlib.Core.Bool.{true, false, not, _&&_, false≢true}
 use mathlib.Core.Logic.{_↔_, ⊎-elim, _⊎_, inl, inr}
 use mathlib.Core.List.{List, [], _∷_, _++_}
-use Prim.Native.Nat.{ℕ, _+_, _-_, _*_, _/_, _%_, _^_, _≤_, _<_}
+use Prim.Native.Nat.{ℕ, _+_, _-_, _/_, _%_, _^_, _≤_, _<_}
 use native.Mathlib.Omega.{arith}
 use borrow.Author.Tests.{ltb-false, eq-eqb, ne-eqb, eqb-false, not-true}
 use lib.Dec.{eqb, ltb}
@@ -28,7 +28,7 @@ use Rattle.answer.specs.ChainLaws.{refuses, refuses-append, chain-append, check
 use Rattle.answer.specs.declared.Answer.the-variants.{Load, NoHeader, HeaderCutOff, LoadBeforeImage, LoadPastImage, EntryOutsideLoad}
 use Rattle.header.specs.declared.Search.{Search}
 use Rattle.header.specs.declared.Search.the-variants.{At, Nothing}
-use Rattle.header.specs.Header.{searchLimit, shortHeader, header}
+use Rattle.header.specs.Header.{headerMagic, searchLimit, shortHeader, header}
 use Rattle.header.specs.HeaderLaws.{header-lowest}
 use Rattle.kernel.specs.declared.Kernel.{Kernel}
 use Rattle.kernel.specs.Kernel.{maxSegments, noSegment, kernelWith, segmentNo, extentNo}
@@ -44,7 +44,7 @@ use Rattle.elf.specs.GoodElf.{SegmentAt}
 use Rattle.elf.specs.ElfLaws.{tabled, entry-is, elf-passed}
 use Rattle.image.specs.declared.load.AddressFields.{AddressFields}
 use Rattle.image.specs.Load.{flagsAt, fieldsAt, onPages, loadLength, loadEnd}
-use Rattle.image.specs.Judged.{noHeader, offsetOf, headerOffset, headerFlags, headerFields, firstLoaded, countLoaded, unknownRequest, noAddresses, cutOff, beforeImage, pastImage, isAddressed, segmentFor, kernelFor, fieldsKernel, kernelOf, headerChecks, loadChecks, fieldChecks, kindChecks, imageChecks}
+use Rattle.image.specs.Judged.{noHeader, offsetOf, headerOffset, headerFlags, headerFields, firstLoaded, countLoaded, undefinedBits, cutOff, beforeImage, pastImage, isAddressed, segmentFor, kernelFor, fieldsKernel, kernelOf, headerChecks, loadChecks, fieldChecks, kindChecks, imageChecks}
 use Rattle.image.specs.LoadLaws.{offset-inside}
 use Rattle.image.specs.Judge.{judged}
 use Rattle.image.specs.Calculated.{Announced, Calculated}
@@ -78,13 +78,11 @@ module _ (image : List ℕ) where
   unfolding imageChecks
   image-refuses = refuses-append (headerChecks image ++ kindChecks image) (entryChecks (kernelOf image)) front-refuses entry-refuses
 
--- flag bits 17 to 31 are ignored: whatever k adds there changes nothing that is read in the flags
-pub high-bits : (f k : ℕ) → (unknownRequest (f + 2 ^ 17 * k) ≡ unknownRequest f) × (noAddresses (f + 2 ^ 17 * k) ≡ noAddresses f) × (onPages (f + 2 ^ 17 * k) ≡ onPages f)
-high-bits f k =
-    let a : (f + 2 ^ 17 * k) / 2 ^ 2 % 2 ^ 14 ≡ f / 2 ^ 2 % 2 ^ 14 = omega arith in
-    let b : (f + 2 ^ 17 * k) / 2 ^ 16 % 2 ≡ f / 2 ^ 16 % 2 = omega arith in
-    let c : (f + 2 ^ 17 * k) % 2 ≡ f % 2 = omega arith in
-    (ap (λ (n : ℕ). not (eqb n 0)) a, ap (λ (n : ℕ). eqb n 0) b, ap (λ (n : ℕ). not (eqb n 0)) c)
+-- flags f and a checksum k that add up with the magic to 2^33: the search finds such a header, and 25 applies to it
+pub high-sum : (f k : ℕ) → f < 2 ^ 32 → k < 2 ^ 32 → headerMagic + f + k ≡ 2 ^ 33 → undefinedBits f ≡ true
+high-sum f k l m e =
+    let n : f / 2 ^ 17 % 2 ^ 15 ≡ 0 → ⊥ = λ z. omega arith in
+    rw (ne-eqb (f / 2 ^ 17 % 2 ^ 15) 0 n) refl
 
 -- the flags choose between the checks on address fields and those on ELF, and between the kernels
 module _ (image : List ℕ) where

@@ -10,13 +10,20 @@ ghost use Prim.Native.Nat.{_+_, _^_, _<_};
 ghost use lib.Dec.{eqb, ltb};
 ghost use Rattle.laws.specs.Checks.{firstOf};
 ghost use Rattle.image.specs.Load.{loadEnd};
-ghost use Rattle.image.specs.Judged.{unknownRequest, noAddresses, unknownKind, cutOff, pastImage, bssBelow, loadChecks};
+ghost use Rattle.image.specs.Judged.{unknownRequest, undefinedBits, noAddresses, unknownKind, cutOff, pastImage, bssBelow, loadChecks};
 
 // Whether any of flag bits 2 to 15 is set.
 pub(crate) fn unknown_request(flags: u32) -> bool
     ensures { λ r. ⌜ r ≡ unknownRequest flags ⌝ }
 {
     flags / 4 % 16384 != 0
+}
+
+// Whether any of flag bits 17 to 31 is set.
+pub(crate) fn undefined_bits(flags: u32) -> bool
+    ensures { λ r. ⌜ r ≡ undefinedBits flags ⌝ }
+{
+    flags / 131072 % 32768 != 0
 }
 
 // Whether flag bit 16 is clear.

@@ -39,6 +39,9 @@ fn judge_header(image: &[u8], at: ImageOffset) -> Judged
     if check::unknown_request(flags) {
         return kernel::refused(Answer::UnknownRequest);
     }
+    if check::undefined_bits(flags) {
+        return kernel::refused(Answer::UndefinedBits);
+    }
     if check::unknown_kind(image, flags) {
         return kernel::refused(Answer::NoAddressFields);
     }

@@ -44,7 +44,7 @@ use Rattle.elf.specs.ElfLaws.{elf-good-is, headers-good-is, segments-apart-is}
 use Rattle.kernel.specs.declared.Kernel.{Kernel}
 use Rattle.kernel.specs.Checks.{entryChecks, extentsOverlap}
 use Rattle.image.specs.Load.{flagsAt, onPages, fieldsAt, loadOffset, loadLength, loadEnd, fullHeader}
-use Rattle.image.specs.Judged.{noHeader, offsetOf, unknownRequest, noAddresses, unknownKind, cutOff, beforeImage, pastImage, bssBelow, headerOffset, headerFlags, isAddressed, headerChecks, loadChecks, fieldChecks, kindChecks, imageChecks}
+use Rattle.image.specs.Judged.{noHeader, offsetOf, unknownRequest, undefinedBits, noAddresses, unknownKind, cutOff, beforeImage, pastImage, bssBelow, headerOffset, headerFlags, isAddressed, headerChecks, loadChecks, fieldChecks, kindChecks, imageChecks}
 use Rattle.image.specs.JudgedLaws.{fields-entry-is, elf-entry-is}
 use Rattle.memory_map.specs.Map.{badMap, mapChecks}
 use Rattle.memory_map.specs.PairsLaws.{map-good-is}
@@ -164,10 +164,12 @@ module _ (x : Lent) where
       let image = imageIn x in
       let f = flagsAt image o in
       let e7 = ap (λ (i : ℕ). unknownRequest (flagsAt image i)) e in
+      let e25 = ap (λ (i : ℕ). undefinedBits (flagsAt image i)) e in
       let e8 = ap (λ (i : ℕ). unknownKind image (flagsAt image i)) e in
       let bit : headerFlags image / 2 ^ 16 % 2 ≡ bit16 image o = ap (λ (i : ℕ). flagsAt image i / 2 ^ 16 % 2) e in
       record {
         c7 = rw e7 (not-is (eqb (f / 2 ^ 2 % 2 ^ 14) 0) (eqb-is (f / 2 ^ 2 % 2 ^ 14) 0));
+        c25 = rw e25 (not-is (eqb (f / 2 ^ 17 % 2 ^ 15) 0) (eqb-is (f / 2 ^ 17 % 2 ^ 15) 0));
         c8 = rw e8 (and-is (noAddresses f) (not (isElf image)) (eqb-is (f / 2 ^ 16 % 2) 0) (not-is (isElf image) (eqb-is (numberAt 4 image 0) 0x464C457F)));
         fields = λ b. at-fields (not-to-true (noAddresses (headerFlags image)) (ne-eqb _ 0 (λ (z : headerFlags image / 2 ^ 16 % 2 ≡ 0). omega arith))) o e;
         elf = λ b. at-elf (not-to-false (noAddresses (headerFlags image)) (eq-eqb _ 0 (bit ∙ b)));

@@ -74,9 +74,10 @@ pub record OfElf (image : List ℕ) (c : ℕ → Bool) : Type 0 where
 abbrev pub bit16 : List ℕ → ℕ → ℕ
 bit16 image o = numberAt 4 image (o + 4) / 2 ^ 16 % 2
 
--- the conditions on the header at o, 7 and 8, and on what flag bit 16 chooses; an ELF image begins 7F 45 4C 46
+-- the conditions on the header at o, 7, 25 and 8, and on what flag bit 16 chooses; an ELF image begins 7F 45 4C 46
 pub record OfHeader (image : List ℕ) (o : ℕ) (c : ℕ → Bool) : Type 0 where
   pub c7 : (c 7 ≡ true) ↔ (numberAt 4 image (o + 4) / 2 ^ 2 % 2 ^ 14 ≡ 0 → ⊥)
+  pub c25 : (c 25 ≡ true) ↔ (numberAt 4 image (o + 4) / 2 ^ 17 % 2 ^ 15 ≡ 0 → ⊥)
   pub c8 : (c 8 ≡ true) ↔ ((bit16 image o ≡ 0) × (numberAt 4 image 0 ≡ 0x464C457F → ⊥))
   pub fields : bit16 image o ≡ 1 → OfFields image o c
   pub elf : bit16 image o ≡ 0 → OfElf image c

@@ -6,9 +6,9 @@ use evidence::input::draft::{overlay, submission, Header, Module};
 use evidence::input::elf::{Elf, ProgramHeader};
 use evidence::input::pair::{map_bytes, Pair};
 use evidence::input::review_board;
-use evidence::loaders::model::read;
+use evidence::loaders::model::{header_offset, read};
 use evidence::loaders::{run, second};
-use evidence::rules::limits::{ADDRESS_FIELDS, RAM};
+use evidence::rules::limits::{ADDRESS_FIELDS, HEADER_MAGIC, RAM};
 use evidence::rules::offsets::elf_header::*;
 use evidence::rules::offsets::header::{BSS_END_ADDR, ENTRY_ADDR, LOAD_ADDR, LOAD_END_ADDR};
 use evidence::rules::offsets::program_header::*;
@@ -152,9 +152,34 @@ fn each_rule_of_the_kernel_alone() {
     alone(with_field(BSS_END_ADDR, 0x10_0027), 13, "bss_end_addr below the load end");
     alone(with_field(ENTRY_ADDR, 0xF_FFFF), 14, "an entry below load_addr");
     alone(with_field(ENTRY_ADDR, 0x10_0028), 14, "an entry not below the load end");
-    let flagged = |bit: u32| Header { flags: 1 << bit, ..Header::default() };
-    (2..16).for_each(|bit| assert_eq!(number(&image(40, flagged(bit))), 7));
     assert_eq!([number(&with_field(ENTRY_ADDR, 0x10_0027)), number(&image(40, header(2)))], [0, 6]);
+}
+
+#[test]
+fn each_flag_bit() {
+    for (bit, others) in (0..32).flat_map(|bit| [0, ADDRESS_FIELDS].map(|others| (bit, others))) {
+        let case = image(40, Header { flags: 1 << bit | others, ..Header::default() });
+        match bit {
+            2..=15 => alone(case, 7, "one of bits 2 to 15 set"),
+            17..=31 => alone(case, 25, "one of bits 17 to 31 set"),
+            16 => assert_eq!(number(&case), 15),
+            _ => assert_eq!(number(&case), if others == 0 { 8 } else { 15 }),
+        }
+    }
+}
+
+/// A sum of 2^33 takes undefined bits; the search finds such a header all the same.
+#[test]
+fn the_search_knows_both_sums() {
+    let found = |flags: u32, checksum: u32| {
+        let words = [HEADER_MAGIC, flags, checksum];
+        header_offset(&words.map(u32::to_le_bytes).concat())
+    };
+    assert_eq!(found(0x0000_0000, 0xE452_4FFE), Some(0));
+    assert_eq!(found(0xE452_4FFE, 0x0000_0000), Some(0));
+    assert_eq!(found(0xE452_4FFF, 0xFFFF_FFFF), Some(0));
+    assert_eq!(found(0xFFFF_FFFF, 0xE452_4FFF), Some(0));
+    assert_eq!(found(0xFFFF_FFFF, 0xFFFF_FFFF), None);
 }
 
 #[test]

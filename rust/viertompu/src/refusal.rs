@@ -53,6 +53,7 @@ refusals! {
     5 BadMemoryMap "the map is empty, over 4,096 bytes, has over 32 pairs, or a pair has a size under 20 or runs past the map's end",
     6 NoHeader "the image has no header",
     7 UnknownRequest "one of the header's flag bits 2 to 15 is set",
+    25 UndefinedBits "one of the header's flag bits 17 to 31 is set",
     8 NoAddressFields "the header's flag bit 16 is clear, and the image does not begin with the ELF mark",
     9 HeaderCutOff "the 32 bytes of header and address fields do not lie inside both the image and its first 8,192 bytes",
     10 LoadBeforeImage "load_addr is above header_addr, or their difference is above the header's offset",

@@ -8,14 +8,14 @@ use denote.Enum.Declared.{tagOf}
 use types.Run.{OneOf, miss}
 use Rattle.answer.specs.Answer.{itemOf}
 use Rattle.answer.specs.declared.Answer.{Answer}
-use Rattle.answer.specs.declared.Answer.the-variants.{Load, NotASubmission, BadSubmission, BadOperatorLine, WindowPastTop, BadMemoryMap, NoHeader, UnknownRequest, NoAddressFields, HeaderCutOff, LoadBeforeImage, LoadPastImage, BssBelowLoadEnd, BadElf, BadProgramHeader, SegmentsOverlap, EntryOutsideLoad, KernelNotOpen, NoRoomForModule, NoRoomForBlock}
+use Rattle.answer.specs.declared.Answer.the-variants.{Load, NotASubmission, BadSubmission, BadOperatorLine, WindowPastTop, BadMemoryMap, NoHeader, UnknownRequest, UndefinedBits, NoAddressFields, HeaderCutOff, LoadBeforeImage, LoadPastImage, BssBelowLoadEnd, BadElf, BadProgramHeader, SegmentsOverlap, EntryOutsideLoad, KernelNotOpen, NoRoomForModule, NoRoomForBlock}
 use Rattle.answer.proofs.Answer.{the-type}
 use Rattle.answer.proofs.item.Statement.{statement}
 use Rattle.answer.proofs.item.Tie as tie
 
 -- the places of the variants in their declaration, but for that of 16
 others : List ℕ
-others = 0 ∷ 1 ∷ 2 ∷ 3 ∷ 4 ∷ 5 ∷ 6 ∷ 7 ∷ 8 ∷ 9 ∷ 10 ∷ 11 ∷ 12 ∷ 13 ∷ 14 ∷ 15 ∷ 16 ∷ 17 ∷ 19 ∷ []
+others = 0 ∷ 1 ∷ 2 ∷ 3 ∷ 4 ∷ 5 ∷ 6 ∷ 7 ∷ 8 ∷ 9 ∷ 10 ∷ 11 ∷ 12 ∷ 13 ∷ 14 ∷ 15 ∷ 16 ∷ 17 ∷ 18 ∷ 20 ∷ []
 
 no-item : (a : Answer) → OneOf others (tagOf the-type a) → 0 ≡ itemOf a
 unfolding others
@@ -27,6 +27,7 @@ no-item WindowPastTop h = refl
 no-item BadMemoryMap h = refl
 no-item NoHeader h = refl
 no-item UnknownRequest h = refl
+no-item UndefinedBits h = refl
 no-item NoAddressFields h = refl
 no-item HeaderCutOff h = refl
 no-item LoadBeforeImage h = refl
@@ -37,7 +38,7 @@ no-item BadProgramHeader h = refl
 no-item SegmentsOverlap h = refl
 no-item EntryOutsideLoad h = refl
 no-item KernelNotOpen h = refl
-no-item (NoRoomForModule i) h = absurd (miss others 18 tt h)
+no-item (NoRoomForModule i) h = absurd (miss others 19 tt h)
 no-item NoRoomForBlock h = refl
 
 enum-known-a : tie.Need-enum-known-a

@@ -8,7 +8,7 @@ use lib.ListN.{length}
 use Rattle.header.specs.Header.{searchLimit, shortHeader}
 use Rattle.header.specs.HeaderLaws.{header-lowest}
 use Rattle.laws.specs.CheckLaws.{told}
-use Rattle.image.proofs.RefusalLaws.{FlagsFound, unknown-request, unknown-kind, kind-judged}
+use Rattle.image.proofs.RefusalLaws.{FlagsFound, unknown-request, undefined-bits, unknown-kind, kind-judged}
 use Rattle.image.proofs.judge_header.Statement.{statement}
 use Rattle.image.proofs.judge_header.Tie as tie
 
@@ -35,8 +35,8 @@ returns c =
     let first = c .before in
     c .refused .ensures ∙ unknown-request (found (first .before .before)) (told (first .before .unknown-request .ensures) (first .if1 .taken))
 
-unknown-kind-requires : tie.Need-unknown-kind-requires
-unknown-kind-requires c κs = search needs
+undefined-bits-requires : tie.Need-undefined-bits-requires
+undefined-bits-requires c κs = search needs
 
 refused-requires-2 : tie.Need-refused-requires-2
 refused-requires-2 c κs = search needs
@@ -45,16 +45,30 @@ returns-2 : tie.Need-returns-2
 returns-2 c =
     let second = c .before in
     let first = second .before .before in
-    c .refused2 .ensures ∙ unknown-kind (found (first .before .before)) (told (first .before .unknown-request .ensures) (first .if1 .left)) (told (second .before .unknown-kind .ensures) (second .if2 .taken))
+    c .refused2 .ensures ∙ undefined-bits (found (first .before .before)) (told (first .before .unknown-request .ensures) (first .if1 .left)) (told (second .before .undefined-bits .ensures) (second .if2 .taken))
+
+unknown-kind-requires : tie.Need-unknown-kind-requires
+unknown-kind-requires c κs = search needs
+
+refused-requires-3 : tie.Need-refused-requires-3
+refused-requires-3 c κs = search needs
+
+returns-3 : tie.Need-returns-3
+returns-3 c =
+    let third = c .before in
+    let second = third .before .before in
+    let first = second .before .before in
+    c .refused3 .ensures ∙ unknown-kind (found (first .before .before)) (told (first .before .unknown-request .ensures) (first .if1 .left)) (told (second .before .undefined-bits .ensures) (second .if2 .left)) (told (third .before .unknown-kind .ensures) (third .if3 .taken))
 
 judge-kind-requires : tie.Need-judge-kind-requires
 judge-kind-requires c κs = search needs
 
-returns-3 : tie.Need-returns-3
-returns-3 c =
-    let second = c .before in
+returns-4 : tie.Need-returns-4
+returns-4 c =
+    let third = c .before in
+    let second = third .before .before in
     let first = second .before .before in
-    c .judge-kind .ensures ∙ kind-judged (found (first .before .before)) (told (first .before .unknown-request .ensures) (first .if1 .left)) (told (second .before .unknown-kind .ensures) (second .if2 .left))
+    c .judge-kind .ensures ∙ kind-judged (found (first .before .before)) (told (first .before .unknown-request .ensures) (first .if1 .left)) (told (second .before .undefined-bits .ensures) (second .if2 .left)) (told (third .before .unknown-kind .ensures) (third .if3 .left))
 
 pub judge-header-spec : {M : Type 1} → statement M
 judge-header-spec =
@@ -65,8 +79,11 @@ judge-header-spec =
     unknown-request-requires
     refused-requires
     returns
-    unknown-kind-requires
+    undefined-bits-requires
     refused-requires-2
     returns-2
+    unknown-kind-requires
+    refused-requires-3
+    returns-3
     judge-kind-requires
-    returns-3)
+    returns-4)

@@ -1,18 +1,16 @@
 //! Goals of ELF images.
 
 use super::load::has_address_fields;
-use super::Goal;
+use super::{image_of, Goal};
 use crate::compare::elf::{Elf, ProgramHeader};
 use crate::input::bench_cases::shortest_elf;
 use crate::input::case::Case;
 use crate::loaders::model::{Board, Reading, Refused};
 use crate::loaders::Outcome;
-use crate::rules::bytes::u32_at;
 use crate::rules::limits::{
-    ADDRESS_SPACE, ELF_HEADER, ELF_MARK, FLOOR, FULL_HEADER, MAX_PROGRAM_HEADERS, PAGE, PREFIX,
-    SEARCH_LIMIT, SHORT_HEADER, TABLE_ENTRY, WORD,
+    ADDRESS_SPACE, ELF_HEADER, ELF_MARK, FLOOR, FULL_HEADER, MAX_PROGRAM_HEADERS, PAGE,
+    SEARCH_LIMIT, SHORT_HEADER, WORD,
 };
-use crate::rules::offsets::submission;
 use std::ops::Range;
 use viertompu::{Plan, Refusal, Span};
 
@@ -23,23 +21,16 @@ const ENTRY_OF_ELF: &str = "an entry in no segment's load bytes";
 pub fn refusal_goals(case: &Case, refused: &Refused) -> Vec<Goal> {
     match refused.refusal {
         Refusal::NoAddressFields => {
-            vec![("mark wrong in its last byte alone", last_byte_wrong(image(case)))]
+            vec![("mark wrong in its last byte alone", last_byte_wrong(image_of(case)))]
         }
-        Refusal::BadElf => bad_elf_goals(image(case)),
-        Refusal::BadProgramHeader => bad_header_goals(image(case)),
-        Refusal::SegmentsOverlap => overlap_goals(image(case)),
+        Refusal::BadElf => bad_elf_goals(image_of(case)),
+        Refusal::BadProgramHeader => bad_header_goals(image_of(case)),
+        Refusal::SegmentsOverlap => overlap_goals(image_of(case)),
         Refusal::EntryOutsideLoad if refused.rules[0].what == ENTRY_OF_ELF => {
-            entry_goals(image(case))
+            entry_goals(image_of(case))
         }
         _ => Vec::new(),
     }
-}
-
-/// The image of a submission whose format is in order.
-fn image(case: &Case) -> &[u8] {
-    let modules = usize::from(case.submission[submission::MODULE_COUNT]);
-    let length = u32_at(&case.submission, submission::IMAGE_LENGTH) as usize;
-    &case.submission[PREFIX + TABLE_ENTRY * modules..][..length]
 }
 
 fn last_byte_wrong(image: &[u8]) -> bool {
@@ -54,11 +45,7 @@ fn share(a: &Range<u64>, b: &Range<u64>) -> bool {
 
 fn bad_elf_goals(image: &[u8]) -> Vec<Goal> {
     let Some(elf) = Elf::read(image) else {
-        let in_order = image.len() > 45 && image.starts_with(&shortest_elf()[..46]);
-        return vec![
-            ("ELF image of 51 bytes", image.len() == ELF_HEADER - 1),
-            ("ELF image under 52 bytes with all that is asked for", in_order),
-        ];
+        return vec![("ELF image of 51 bytes", image.len() == ELF_HEADER - 1)];
     };
     let (length, end) = (image.len() as u64, elf.table_place().end);
     let inside = end <= length;
@@ -166,7 +153,7 @@ pub fn board_goals(reading: &Reading, outcome: &Outcome) -> Vec<Goal> {
     let later = elf.segments().count() > 1 && elf.segments().next().is_some_and(open);
     let length = reading.submission.image.len();
     vec![
-        ("ELF image of 52 bytes", length == ELF_HEADER),
+        ("ELF image as short as can be", length == shortest_elf().len()),
         ("segment refused that ends at 2^32", end(|end| end == ADDRESS_SPACE)),
         ("segment refused that ends past 2^32", end(|end| end > ADDRESS_SPACE)),
         ("segments that share by a wrapped end alone", shares_by_wrapping(&elf)),
@@ -276,7 +263,7 @@ impl ElfLoad<'_> {
             ("loaded with a table at the image's end", table.end == length),
             ("loaded with a table over the ELF header", table.start < ELF_HEADER as u64),
             ("loaded with a table over the header", share(&table, &header)),
-            ("loaded with the header in the ELF header", header.end <= ELF_HEADER as u64),
+            ("loaded with the header over the ELF header", header.start < ELF_HEADER as u64),
             ("loaded with the header at the image's end", header.end == length),
             (
                 "loaded with the header at the search limit",

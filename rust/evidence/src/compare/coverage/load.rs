@@ -69,8 +69,6 @@ impl Load<'_> {
             ("loaded with an operator's line of 1 byte", operator.len() == 1),
             ("loaded with an operator's line of 255 bytes", operator.len() == MAX_LINE),
             ("loaded with a module string of 127 bytes", self.longest_string()),
-            ("loaded with a header sum of 2^32", self.header_sum() == 1 << 32),
-            ("loaded with a header sum of 2^33", self.header_sum() == 1 << 33),
             ("loaded with the header behind a false one", self.false_header_first()),
             ("loaded with the kernel below 1 MiB", kernel.segments.iter().any(|s| s.start < FLOOR)),
             ("loaded with page boundaries", kernel.pages),
@@ -92,11 +90,6 @@ impl Load<'_> {
     fn header_word(&self, offset: usize) -> u64 {
         let header = self.plan.header_offset as usize;
         u64::from(u32_at(self.reading.submission.image, header + offset))
-    }
-
-    fn header_sum(&self) -> u64 {
-        let magic = u64::from(HEADER_MAGIC);
-        magic + self.header_word(header::FLAGS) + self.header_word(header::CHECKSUM)
     }
 
     /// Does the magic stand before the header, at any offset?

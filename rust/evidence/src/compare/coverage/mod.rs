@@ -2,13 +2,16 @@
 
 mod board;
 mod elf;
+mod flags;
 mod load;
 
 use crate::input::case::Case;
 use crate::loaders::model::{self, Reading, Rule};
 use crate::loaders::Outcome;
-use crate::rules::limits::{MAX_LINE, MAX_MAP, MAX_MODULES, TOP};
+use crate::rules::bytes::u32_at;
+use crate::rules::limits::{MAX_LINE, MAX_MAP, MAX_MODULES, PREFIX, TABLE_ENTRY, TOP};
 use crate::rules::numbers;
+use crate::rules::offsets::submission;
 use board::OnBoard;
 use load::Load;
 use std::collections::BTreeMap;
@@ -44,6 +47,7 @@ impl Coverage {
             Err(refused) => {
                 self.record_rules(refused.refusal.number(), &refused.rules);
                 self.count(border_goals(case, refused.refusal));
+                self.count(flags::refusal_goals(case, refused.refusal));
                 self.count(elf::refusal_goals(case, &refused));
             }
             Ok(reading) => self.record_board(case, &reading, outcome),
@@ -120,6 +124,13 @@ impl fmt::Display for Coverage {
         }
         Ok(())
     }
+}
+
+/// The image of a submission whose format is in order.
+fn image_of(case: &Case) -> &[u8] {
+    let modules = usize::from(case.submission[submission::MODULE_COUNT]);
+    let length = u32_at(&case.submission, submission::IMAGE_LENGTH) as usize;
+    &case.submission[PREFIX + TABLE_ENTRY * modules..][..length]
 }
 
 /// Goals of what is lent beside the submission and refused: too much by one.

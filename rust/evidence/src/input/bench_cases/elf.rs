@@ -6,10 +6,11 @@ use super::{
 };
 use crate::input::case::Case;
 use crate::input::draft::{overlay, pattern, submission, Module};
-use crate::input::elf::{Elf, ProgramHeader};
+use crate::input::elf::{Elf, ElfHeader, ProgramHeader};
 use crate::input::pair::Pair;
-use crate::rules::limits::{ELF_HEADER, PROGRAM_HEADER};
+use crate::rules::limits::{ELF_HEADER, HEADER_MAGIC, PROGRAM_HEADER, RAM};
 use crate::rules::offsets::elf_header::*;
+use crate::rules::offsets::header::{CHECKSUM, FLAGS};
 use crate::rules::offsets::program_header::*;
 use std::ops::Range;
 use viertompu::{Plan, Refusal};
@@ -44,12 +45,15 @@ const ENTRY: u32 = 0x10_0000;
 const MODULE: [u32; 2] = [0x10_0010, 0x10_0015];
 const BLOCK: [u32; 2] = [0x10_0020, 0x10_00C2];
 
-/// A header that stands at 32 in an ELF header and gives the entry size with its checksum.
-const INSIDE: &str = "02 B0 AD 1B 00 00 32 E4 FE 4F 20 00";
-
-/// An image that is its ELF header alone: its one program header stands in it from 8 on, and its
-/// header from 32 on. It loads its first eight bytes to 8.
+/// The shortest image that is in order: its one program header stands in its ELF header from 8 on,
+/// and its header begins with the ELF header's last word. It loads its first eight bytes to 8.
 const SHORTEST: &str = "7F 45 4C 46 01 01 01 00 01 00 00 00 00 00 00 00
+    02 00 03 00 08 00 00 00 08 00 00 00 08 00 00 00
+    00 00 00 00 00 00 00 00 34 00 20 00 01 00 00 00 02 B0 AD 1B 00 00 00 00 FE 4F 52 E4";
+
+/// Shorter, with a header from 32 on: the entry size is the upper half of its checksum, which takes
+/// undefined bits.
+const ELF_HEADER_ALONE: &str = "7F 45 4C 46 01 01 01 00 01 00 00 00 00 00 00 00
     02 00 03 00 08 00 00 00 08 00 00 00 08 00 00 00
     02 B0 AD 1B 00 00 32 E4 FE 4F 20 00 01 00 00 00 00 00 00 00";
 
@@ -155,9 +159,23 @@ fn sixteen_segments() -> BenchCase {
         .holding(0x10_0078, &pattern(0, 8))
 }
 
+/// An ELF header in which a header stands at 24: the entry is its magic, the table's offset its
+/// flags and the offset of the sections its checksum.
+fn with_header_inside(e_phnum: u16) -> ElfHeader {
+    let (e_entry, e_shoff) = (HEADER_MAGIC, 0xE452_4FFE);
+    ElfHeader { e_entry, e_phoff: 0, e_shoff, e_phnum, ..ElfHeader::default() }
+}
+
+/// The first two of its program headers lie over the ELF header and are of other types.
 fn header_inside() -> BenchCase {
-    let plan = Plan { header_offset: 32, ..e1_plan() };
-    loads("a header inside the ELF header", e1_bytes(32, &bytes(INSIDE)), plan)
+    let third = ProgramHeader::load(96, 0x1BAD_B000, 8, 16).bytes();
+    let image = [with_header_inside(3).bytes(), vec![0; 12], third, CODE_BYTES.to_vec()].concat();
+    let board = with_pair(bare(&image), Pair::new(0x1BAD_B000, 0x1000, RAM));
+    let case = Case { first: 0x1BAD_B000, window: pattern(0, 0x100), ..board };
+    let segment = [0x1BAD_B000, 0x1BAD_B008, 0x1BAD_B010];
+    let plan = plan_of(&[segment], 0x1BAD_B002, [0x1BAD_B010, 0x1BAD_B0B8], &[]);
+    loads("a header inside the ELF header", case, Plan { header_offset: 24, ..plan })
+        .holding(0x1BAD_B000, CODE_BYTES)
 }
 
 /// A header without room for address fields, up to the image's end and to the search limit.
@@ -172,7 +190,9 @@ fn header_last() -> BenchCase {
 
 /// Borders of the answers.
 pub fn borders() -> Vec<BenchCase> {
-    let mut cases = mark_and_kind();
+    let mut cases = flag_borders();
+    cases.extend(shortest_images());
+    cases.extend(mark_and_kind());
     cases.extend(table_borders());
     cases.extend(count_borders());
     cases.extend(file_size_borders());
@@ -184,18 +204,48 @@ pub fn borders() -> Vec<BenchCase> {
     cases
 }
 
+/// E1 with other flags, their checksum, and a byte of its image.
+fn e1_flags(flags: u32, checksum: u32, at: usize, byte: u8) -> Case {
+    let mut case = e1_with(&[(HEADER + FLAGS, flags), (HEADER + CHECKSUM, checksum)]);
+    case.submission[E1_IMAGE.start + at] = byte;
+    case
+}
+
+/// 7 and 25 before all that is asked of an ELF image.
+fn flag_borders() -> Vec<BenchCase> {
+    use Refusal::{UndefinedBits, UnknownRequest};
+    let flags = |flags: u32, checksum: u32| e1_flags(flags, checksum, 0, 0x7F);
+    let with = |at: usize, byte: u8| e1_flags(0x0002_0000, 0xE450_4FFE, at, byte);
+    let request = flags(0x0002_0004, 0xE450_4FFA);
+    vec![
+        refused("bit 17 in an ELF image", flags(0x0002_0000, 0xE450_4FFE), UndefinedBits),
+        refused("bit 31 in an ELF image", flags(0x8000_0000, 0x6452_4FFE), UndefinedBits),
+        refused("bits 2 and 17 in an ELF image", request, UnknownRequest),
+        refused("bit 17 and a wrong mark", with(3, b'G'), UndefinedBits),
+        refused("bit 17 and class 2", with(EI_CLASS, 2), UndefinedBits),
+        refused("the ELF header alone", on_board(bare(&bytes(ELF_HEADER_ALONE))), UndefinedBits),
+    ]
+}
+
 /// The shortest image on B1's board, in a window from 0 on.
 fn shortest(length: usize) -> Case {
     let window = pattern(0, 0x10_0090);
     Case { first: 0, window, ..on_board(bare(&shortest_elf()[..length])) }
 }
 
-fn shortest_itself() -> BenchCase {
+fn shortest_images() -> Vec<BenchCase> {
+    use Refusal::{BadElf, NoHeader};
     let plan = plan_of(&[[8, 16, 16]], 8, [0x10_0000, 0x10_0090], &[]);
-    loads("an ELF image of 52 bytes", shortest(52), Plan { header_offset: 32, ..plan })
-        .holding(0, &pattern(0, 8))
-        .holding(8, b"\x7FELF\x01\x01\x01\x00")
-        .holding(16, &pattern(16, 8))
+    let inside = |length: usize| on_board(bare(&with_header_inside(1).bytes()[..length]));
+    vec![
+        refused("an ELF image of 51 bytes", inside(51), BadElf),
+        refused("an ELF image of 52 bytes", inside(52), BadElf),
+        refused("an ELF image of 59 bytes", shortest(59), NoHeader),
+        loads("an ELF image of 60 bytes", shortest(60), Plan { header_offset: 48, ..plan })
+            .holding(0, &pattern(0, 8))
+            .holding(8, b"\x7FELF\x01\x01\x01\x00")
+            .holding(16, &pattern(16, 8)),
+    ]
 }
 
 fn mark_and_kind() -> Vec<BenchCase> {
@@ -205,8 +255,6 @@ fn mark_and_kind() -> Vec<BenchCase> {
     vec![
         refused("a wrong first byte of the mark", mark(0), NoAddressFields),
         refused("a wrong fourth byte of the mark", mark(3), NoAddressFields),
-        refused("an ELF image of 51 bytes", shortest(51), BadElf),
-        shortest_itself(),
         refused("class 2", kind(EI_CLASS, 2), BadElf),
         refused("data 2", kind(EI_DATA, 2), BadElf),
         refused("type 3", kind(E_TYPE, 3), BadElf),

@@ -5,16 +5,13 @@ use crate::input::draft::Header;
 use crate::input::elf::{Elf, ProgramHeader};
 use crate::input::rng::Rng;
 use crate::rules::limits::{
-    ADDRESS_FIELDS, ELF_HEADER, MAX_PROGRAM_HEADERS, PROGRAM_HEADER, PT_LOAD, SEARCH_LIMIT,
-    SHORT_HEADER,
+    ELF_HEADER, MAX_PROGRAM_HEADERS, PROGRAM_HEADER, PT_LOAD, SEARCH_LIMIT, SHORT_HEADER,
 };
 
 /// Types of program headers that are not loadable.
 const OTHER_TYPES: [u32; 8] = [0, 2, 3, 4, 6, 0x101, 0x6474_E551, 0x8000_0001];
-/// Where a header can stand inside an ELF header: it gives `e_phentsize` its value by the upper
-/// half of its checksum, if these are the upper flags.
-pub const INSIDE: usize = 32;
-pub const FLAGS_INSIDE: u32 = 0xE432_0000;
+/// Where a header can stand whose first word is the ELF header's last: no field there counts.
+const OVER_THE_END: usize = ELF_HEADER - 4;
 
 /// The lengths and offsets of an ELF kernel, before it has addresses.
 pub struct Shape {
@@ -63,10 +60,6 @@ impl Shape {
     }
 
     pub fn header(&self, flags: u32) -> Header {
-        let flags = match self.header_offset {
-            INSIDE => FLAGS_INSIDE | flags & 3,
-            _ => flags & !ADDRESS_FIELDS,
-        };
         Header { offset: self.header_offset, flags, ..Header::default() }
     }
 
@@ -186,7 +179,7 @@ impl Layout {
         let (header_offset, e_phoff) = match rng.below(12) {
             0..=3 => (behind(ELF_HEADER + lead), ELF_HEADER + lead),
             4 | 5 => (room, room + SHORT_HEADER + lead),
-            6 => (INSIDE, ELF_HEADER + lead),
+            6 => (OVER_THE_END, OVER_THE_END + SHORT_HEADER + lead),
             7 => in_table(rng, kinds).unwrap_or((room, room + SHORT_HEADER)),
             8 => {
                 let e_phoff = over_elf_header(rng, kinds);

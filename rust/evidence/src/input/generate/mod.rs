@@ -139,12 +139,9 @@ impl Shape {
     }
 }
 
-/// Any of the bits a loader must know or may ignore, bit 16 not among them. High flags make the
-/// header's sum 2^33 rather than 2^32.
+/// Any of bits 0 and 1. Bit 16 is the shape's.
 fn flags(rng: &mut Rng) -> u32 {
-    let any = rng.next_u64() as u32 & 0xFFFE_0000;
-    let ignored = rng.pick(&[0, 0, 0, any, 0xFFFE_0000]);
-    ignored | rng.below(4) as u32
+    rng.below(4) as u32
 }
 
 /// Up to 16 modules; fewer where they take whole pages.

@@ -1,4 +1,4 @@
-//! The header, its flags and the kind of image (checks 6 to 8).
+//! The header, its flags and the kind of image (checks 6, 7, 25 and 8).
 
 use super::{address_fields, check, elf, number, rule, Refused};
 use crate::rules::limits::{
@@ -40,17 +40,17 @@ pub struct Kernel {
     pub segments: Vec<Segment>,
 }
 
-/// Checks 6 to 8, then those of the kind of image up to 14.
+/// Checks 6, 7, 25 and 8, then those of the kind of image up to 14.
 pub fn read(image: &[u8]) -> Result<Kernel, Refused> {
-    let mut multiples = (0..SEARCH_LIMIT as u64).step_by(HEADER_BOUNDARY);
-    let lowest = multiples.find(|&offset| is_header(image, offset));
     let no_header = || Refused { refusal: Refusal::NoHeader, rules: vec![rule("no header", true)] };
-    let header_offset = lowest.ok_or_else(no_header)?;
+    let header_offset = header_offset(image).ok_or_else(no_header)?;
 
     let flags = word(image, header_offset, FLAGS);
     let is_set = |bit: u32| flags >> bit & 1 == 1;
     let unknown = rule("one of bits 2 to 15 set", (2..=15).any(is_set));
     check(Refusal::UnknownRequest, [unknown])?;
+    let undefined = rule("one of bits 17 to 31 set", (17..=31).any(is_set));
+    check(Refusal::UndefinedBits, [undefined])?;
 
     let announced = flags & u64::from(ADDRESS_FIELDS) != 0;
     let neither = !announced && !image.starts_with(ELF_MARK);
@@ -62,12 +62,18 @@ pub fn read(image: &[u8]) -> Result<Kernel, Refused> {
     Ok(Kernel { header_offset, pages, entry, segments })
 }
 
+/// The lowest offset of a header, whether it is then refused or not.
+pub fn header_offset(image: &[u8]) -> Option<u64> {
+    let mut multiples = (0..SEARCH_LIMIT as u64).step_by(HEADER_BOUNDARY);
+    multiples.find(|&offset| is_header(image, offset))
+}
+
 /// A field of a header at an offset; 0 where the image ends before the field does.
 pub fn word(image: &[u8], offset: u64, field: usize) -> u64 {
     number(image, offset + field as u64, 4).unwrap_or(0)
 }
 
-/// Does a header stand at an offset, whether it is then refused or not?
+/// Does a header stand at an offset?
 fn is_header(image: &[u8], offset: u64) -> bool {
     let inside = image.len().min(SEARCH_LIMIT) as u64;
     let word = |field| word(image, offset, field);

@@ -10,7 +10,7 @@ mod memory_map;
 mod placing;
 mod submission;
 
-pub use kernel::{Kernel, Segment};
+pub use kernel::{header_offset, Kernel, Segment};
 pub use placing::Board;
 pub use submission::{Module, Submission};
 
@@ -41,7 +41,7 @@ pub struct Reading<'a> {
     pub kernel: Kernel,
 }
 
-/// The checks before 15: 1 to 8, then 9 to 13 or 18 to 20 by the kind of image, then 14.
+/// The checks before 15: 1 to 7, 25 and 8, then 9 to 13 or 18 to 20 by the kind of image, then 14.
 pub fn read(case: &Case) -> Result<Reading<'_>, Refused> {
     let submission = submission::read(&case.submission)?;
     let operator = case.operator.as_slice();

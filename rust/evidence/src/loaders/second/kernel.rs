@@ -1,4 +1,4 @@
-//! The header, the kind of image it chooses, and the entry (checks 6 to 8 and 14).
+//! The header, the kind of image it chooses, and the entry (checks 6, 7, 25, 8 and 14).
 
 use super::image::{ImageOffset, Program, Segment};
 use super::{address_fields, elf};
@@ -11,6 +11,8 @@ use viertompu::Refusal;
 
 /// Flag bits 2 to 15.
 const UNKNOWN_REQUESTS: u32 = 0xFFFC;
+/// Flag bits 17 to 31, which the standard leaves undefined and tells an image to keep at zero.
+const UNDEFINED_BITS: u32 = 0xFFFE_0000;
 
 /// What the header asks for, and what the image loads.
 pub struct Kernel<'a> {
@@ -26,6 +28,10 @@ impl<'a> Kernel<'a> {
         let flags = u32_at(image, header_offset.0 as usize + header::FLAGS);
         if flags & UNKNOWN_REQUESTS != 0 {
             return Err(Refusal::UnknownRequest);
+        }
+        // Check 25 comes before the kind of image is chosen, so it holds for both kinds.
+        if flags & UNDEFINED_BITS != 0 {
+            return Err(Refusal::UndefinedBits);
         }
         let Program { segments, entry } = read_program(image, header_offset, flags)?;
         let loads = |segment: &Segment| segment.load().contains(u64::from(entry));

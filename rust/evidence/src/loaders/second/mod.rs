@@ -44,7 +44,7 @@ struct Examined<'a> {
     window: Span,
 }
 
-/// Checks 1 to 14, and 18 to 20 before 14.
+/// Checks 1 to 14, with 25 straight after 7, and 18 to 20 before 14.
 fn examine(case: &Case) -> Result<Examined<'_>, Refusal> {
     let submission = Submission::read(&case.submission)?;
     if case.operator.len() > MAX_LINE || case.operator.contains(&0) {

@@ -1,6 +1,6 @@
-//! Damages of an ELF image (checks 8, 18 to 20, 14, 15 to 17).
+//! Damages of an ELF image (checks 25, 8, 18 to 20, 14, 15 to 17).
 
-use super::super::elf::{wild_header, FLAGS_INSIDE, INSIDE};
+use super::super::elf::wild_header;
 use crate::input::bench_cases::shortest_elf;
 use crate::input::draft::Draft;
 use crate::input::elf::{Elf, ProgramHeader};
@@ -10,6 +10,13 @@ use crate::rules::limits::{
     ADDRESS_SPACE, ELF_HEADER, MAX_PAIRS, MAX_PROGRAM_HEADERS, PROGRAM_HEADER, PT_LOAD,
     SHORT_HEADER,
 };
+
+/// 25: a header in the ELF header. `e_phentsize` is the upper half of its checksum, which takes
+/// undefined bits.
+pub fn header_inside(_: &mut Rng, draft: &mut Draft) {
+    draft.header.offset = 32;
+    draft.header.flags |= 0xE432_0000;
+}
 
 /// 8: a mark with a wrong byte, or none.
 pub fn no_mark(rng: &mut Rng, draft: &mut Draft) {
@@ -24,22 +31,20 @@ pub fn no_mark(rng: &mut Rng, draft: &mut Draft) {
 
 /// 18: an image that ends in the ELF header, with a header in it.
 pub fn image_under_52(rng: &mut Rng, draft: &mut Draft) {
-    if rng.one_in(2) {
-        return shortest(rng, draft);
-    }
     let offset = 4 * rng.range(1, 9) as usize;
     let kept = rng.range((offset + SHORT_HEADER) as u64, ELF_HEADER as u64 - 1) as usize;
     draft.header.offset = offset;
     draft.filler.truncate(rng.pick(&[kept, ELF_HEADER - 1]));
 }
 
-/// 18 or 15: an image of its ELF header alone, cut off where nothing is missed but its length.
-fn shortest(rng: &mut Rng, draft: &mut Draft) {
+/// 15 or 6: the shortest image that is in order, or without its last byte, which is its header's.
+pub fn shortest(rng: &mut Rng, draft: &mut Draft) {
+    let mut image = shortest_elf();
     draft.elf = None;
-    draft.filler = shortest_elf();
     draft.decoys.clear();
-    (draft.header.offset, draft.header.flags) = (INSIDE, FLAGS_INSIDE);
-    draft.filler.truncate(rng.pick(&[46, 51, 51, 52, 52]));
+    (draft.header.offset, draft.header.flags) = (image.len() - SHORT_HEADER, 0);
+    image.truncate(image.len() - rng.pick(&[0, 0, 1]));
+    draft.filler = image;
 }
 
 /// 18: another class, data, type, machine or entry size.

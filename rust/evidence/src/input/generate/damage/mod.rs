@@ -29,10 +29,11 @@ const BESIDE: &[Damage] = &[
     Bytes(lent::bad_map),
 ];
 
-/// Checks 6 to 14 of an image with address fields.
+/// Checks 6 to 14 and 25 of an image with address fields.
 const IMAGE: &[Damage] = &[
     InDraft(image::no_header),
     InDraft(image::unknown_request),
+    InDraft(image::undefined_bits),
     InDraft(image::no_address_fields),
     InDraft(image::header_cut_off),
     InDraft(image::load_before_image),
@@ -41,11 +42,14 @@ const IMAGE: &[Damage] = &[
     InDraft(image::entry_outside_load),
 ];
 
-/// Checks 6 to 8, 18 to 20 and 14 of an ELF image.
+/// Checks 6 to 8 and 25, 18 to 20 and 14 of an ELF image, and its shortest form.
 const ELF: &[Damage] = &[
     InDraft(image::no_header),
     InDraft(image::unknown_request),
+    InDraft(image::undefined_bits),
+    InDraft(elf::header_inside),
     InDraft(elf::no_mark),
+    InDraft(elf::shortest),
     InDraft(elf::image_under_52),
     InDraft(elf::another_kind),
     InDraft(elf::another_kind),
