@@ -200,6 +200,35 @@ fn each_rule_of_the_elf_header_alone() {
     assert_eq!([number(&review_board::case(&e1())), number(&with_table(16, 0))], [0; 2]);
 }
 
+/// Does an image pass 18 that has all of it in place, its one program header at `e_phoff`, with a
+/// header written over that?
+fn passes_18(length: usize, offset: usize, flags: u32, e_phoff: usize) -> bool {
+    let mut image = vec![0; length];
+    overlay(&mut image, e_phoff + P_MEMSZ, &[0xFF; 4]);
+    overlay(&mut image, e_phoff + P_TYPE, &[1, 0, 0, 0]);
+    overlay(&mut image, 0, b"\x7FELF\x01\x01");
+    overlay(&mut image, E_TYPE, &[2, 0, 3, 0]);
+    overlay(&mut image, E_PHOFF, &(e_phoff as u32).to_le_bytes());
+    overlay(&mut image, E_PHENTSIZE, &[32, 0, 1, 0]);
+    overlay(&mut image, offset, &Header { flags, ..Header::default() }.bytes()[..12]);
+    let case = review_board::case(&submission(&image, b"", &[]));
+    ![6, 7, 25, 8, 18].contains(&number(&case))
+}
+
+/// An image in order stays so with zeros behind it, so that 59 bytes speak for all shorter ones too.
+/// There is room for one program header. The last flags fit a header at 32 to the entry size.
+#[test]
+fn no_elf_image_under_60_bytes_is_in_order() {
+    let some_passes = |length: usize| {
+        let places = || (0..=length - 12).step_by(4);
+        let tables = |offset: usize, flags: u32| {
+            (0..=length - 32).any(|e_phoff| passes_18(length, offset, flags, e_phoff))
+        };
+        [0, 1, 2, 3, 0xE432_0000].iter().any(|&flags| places().any(|at| tables(at, flags)))
+    };
+    assert_eq!([59, 60].map(some_passes), [false, true]);
+}
+
 #[test]
 fn each_rule_of_the_table_alone() {
     let mut types = with_word(CODE + P_TYPE, 0);

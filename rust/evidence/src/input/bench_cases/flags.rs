@@ -42,7 +42,7 @@ fn unknown_requests() -> Vec<BenchCase> {
         refused("flag bits 2, 16 and 17", b1_flags(0x0003_0004, 0xE44F_4FFA), UnknownRequest),
         refused("flag bits 15, 16 and 31", b1_flags(0x8001_8000, 0x6450_CFFE), UnknownRequest),
         refused("flag bits 2 and 17", b1_flags(0x0002_0004, 0xE450_4FFA), UnknownRequest),
-        refused("the lowest sum of 2^33", b1_flags(0xE452_4FFF, 0xFFFF_FFFF), UnknownRequest),
+        refused("the lowest flags of 2^33", b1_flags(0xE452_4FFF, 0xFFFF_FFFF), UnknownRequest),
     ]
 }
 
