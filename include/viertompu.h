@@ -27,6 +27,7 @@ extern "C" {
  *     the top                   0xFFFFF000
  *     the header                Multiboot's: magic 0x1BADB002, flags and checksum, which add up to 0 in 32 bits, at the lowest
  *                               multiple of 4 where they stand inside the image's first 8,192 bytes
+ *     a false header            the magic at such a multiple of 4, with flags and checksum that add up to something else
  *     header_addr, load_addr,   the address fields, from offset 12 of the header on; flag bit 16 announces them
  *     load_end_addr,
  *     bss_end_addr, entry_addr
@@ -51,7 +52,7 @@ extern "C" {
     ANSWER(VIERTOMPU_BAD_OPERATOR_LINE, 3, "the operator's line is over 255 bytes or holds a zero byte") \
     ANSWER(VIERTOMPU_WINDOW_PAST_TOP, 4, "the window's first address plus its length is above the top") \
     ANSWER(VIERTOMPU_BAD_MEMORY_MAP, 5, "the map is empty, over 4,096 bytes, has over 32 pairs, or a pair has a size under 20 or runs past the map's end") \
-    ANSWER(VIERTOMPU_NO_HEADER, 6, "the image has no header") \
+    ANSWER(VIERTOMPU_NO_HEADER, 6, "the image has no header; the item is how many false headers it has") \
     ANSWER(VIERTOMPU_UNKNOWN_REQUEST, 7, "one of the header's flag bits 2 to 15 is set") \
     ANSWER(VIERTOMPU_UNDEFINED_BITS, 25, "one of the header's flag bits 17 to 31 is set") \
     ANSWER(VIERTOMPU_NO_ADDRESS_FIELDS, 8, "the header's flag bit 16 is clear, and the image does not begin with the ELF mark") \
@@ -90,7 +91,7 @@ static inline const char *viertompu_reason(uint32_t number)
 #define VIERTOMPU_PLAN_WORDS 96
 
 #define VIERTOMPU_NUMBER 0          /* the number that is also returned */
-#define VIERTOMPU_ITEM 1            /* the module's index for 16, else 0 */
+#define VIERTOMPU_ITEM 1            /* how many false headers there are for 6, the module's index for 16, else 0 */
 #define VIERTOMPU_HEADER 2          /* the header's offset in the image */
 #define VIERTOMPU_ENTRY 3           /* the address at which the kernel is entered */
 #define VIERTOMPU_EAX 4             /* the number handed over in EAX */
@@ -99,7 +100,8 @@ static inline const char *viertompu_reason(uint32_t number)
 #define VIERTOMPU_BLOCK_END 7       /* its end */
 #define VIERTOMPU_SEGMENTS 8        /* the segments of the kernel, of three words each; zeros past the last */
 #define VIERTOMPU_MODULES 56        /* the modules, of two words each; zeros past the last */
-#define VIERTOMPU_ZEROS 88          /* from here on the words are zero */
+#define VIERTOMPU_FALSE_HEADERS 88  /* how many false headers stand before the header */
+#define VIERTOMPU_ZEROS 89          /* from here on the words are zero */
 
 #define VIERTOMPU_SEGMENT_WORDS 3
 #define VIERTOMPU_MODULE_WORDS 2

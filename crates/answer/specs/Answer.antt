@@ -1,6 +1,6 @@
 -- The numbers and items of the answers.                                               rule: ANSWERS
 --     numberOf    0 for a load, else the number of the refusal; 11 is not given
---     itemOf      the module's index for 16, else 0
+--     itemOf      how many false headers there are for 6, the module's index for 16, else 0
 --     isLoad      no check refuses
 --     orElse      the first of two answers that refuses
 -- Assumes nothing.
@@ -17,7 +17,7 @@ numberOf BadSubmission = 2
 numberOf BadOperatorLine = 3
 numberOf WindowPastTop = 4
 numberOf BadMemoryMap = 5
-numberOf NoHeader = 6
+numberOf (NoHeader n) = 6
 numberOf UnknownRequest = 7
 numberOf UndefinedBits = 25
 numberOf NoAddressFields = 8
@@ -40,7 +40,7 @@ itemOf BadSubmission = 0
 itemOf BadOperatorLine = 0
 itemOf WindowPastTop = 0
 itemOf BadMemoryMap = 0
-itemOf NoHeader = 0
+itemOf (NoHeader n) = n
 itemOf UnknownRequest = 0
 itemOf UndefinedBits = 0
 itemOf NoAddressFields = 0

@@ -1,5 +1,5 @@
 -- Laws of the numbered answers.
---     item-none      every answer but 16 has the item 0
+--     item-none      every answer but 6 and 16 has the item 0
 --     number-most    no number is above 25
 -- Assumes nothing.
 use mathlib.Core.Path.{_≡_, refl}
@@ -9,28 +9,28 @@ use Rattle.answer.specs.Answer.{numberOf, itemOf}
 use Rattle.answer.specs.declared.Answer.{Answer}
 use Rattle.answer.specs.declared.Answer.the-variants.{Load, NotASubmission, BadSubmission, BadOperatorLine, WindowPastTop, BadMemoryMap, NoHeader, UnknownRequest, UndefinedBits, NoAddressFields, HeaderCutOff, LoadBeforeImage, LoadPastImage, BssBelowLoadEnd, BadElf, BadProgramHeader, SegmentsOverlap, EntryOutsideLoad, KernelNotOpen, NoRoomForModule, NoRoomForBlock}
 
-pub item-none : (a : Answer) → (numberOf a ≡ 16 → ⊥) → itemOf a ≡ 0
-item-none Load h = refl
-item-none NotASubmission h = refl
-item-none BadSubmission h = refl
-item-none BadOperatorLine h = refl
-item-none WindowPastTop h = refl
-item-none BadMemoryMap h = refl
-item-none NoHeader h = refl
-item-none UnknownRequest h = refl
-item-none UndefinedBits h = refl
-item-none NoAddressFields h = refl
-item-none HeaderCutOff h = refl
-item-none LoadBeforeImage h = refl
-item-none LoadPastImage h = refl
-item-none BssBelowLoadEnd h = refl
-item-none BadElf h = refl
-item-none BadProgramHeader h = refl
-item-none SegmentsOverlap h = refl
-item-none EntryOutsideLoad h = refl
-item-none KernelNotOpen h = refl
-item-none (NoRoomForModule i) h = absurd (h refl)
-item-none NoRoomForBlock h = refl
+pub item-none : (a : Answer) → (numberOf a ≡ 6 → ⊥) → (numberOf a ≡ 16 → ⊥) → itemOf a ≡ 0
+item-none Load h l = refl
+item-none NotASubmission h l = refl
+item-none BadSubmission h l = refl
+item-none BadOperatorLine h l = refl
+item-none WindowPastTop h l = refl
+item-none BadMemoryMap h l = refl
+item-none (NoHeader n) h l = absurd (h refl)
+item-none UnknownRequest h l = refl
+item-none UndefinedBits h l = refl
+item-none NoAddressFields h l = refl
+item-none HeaderCutOff h l = refl
+item-none LoadBeforeImage h l = refl
+item-none LoadPastImage h l = refl
+item-none BssBelowLoadEnd h l = refl
+item-none BadElf h l = refl
+item-none BadProgramHeader h l = refl
+item-none SegmentsOverlap h l = refl
+item-none EntryOutsideLoad h l = refl
+item-none KernelNotOpen h l = refl
+item-none (NoRoomForModule i) h l = absurd (l refl)
+item-none NoRoomForBlock h l = refl
 
 pub number-most : (a : Answer) → numberOf a ≤ 25
 number-most Load = omega arith
@@ -39,7 +39,7 @@ number-most BadSubmission = omega arith
 number-most BadOperatorLine = omega arith
 number-most WindowPastTop = omega arith
 number-most BadMemoryMap = omega arith
-number-most NoHeader = omega arith
+number-most (NoHeader n) = omega arith
 number-most UnknownRequest = omega arith
 number-most UndefinedBits = omega arith
 number-most NoAddressFields = omega arith

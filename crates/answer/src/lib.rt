@@ -16,8 +16,8 @@ pub enum Answer {
     WindowPastTop,
     // 5: the map is empty, over 4,096 bytes, has over 32 pairs, or a pair has a size under 20 or runs past the map's end
     BadMemoryMap,
-    // 6: the image has no header
-    NoHeader,
+    // 6: the image has no header; the item is how many false headers it has
+    NoHeader(u32),
     // 7: one of the header's flag bits 2 to 15 is set
     UnknownRequest,
     // 25: one of the header's flag bits 17 to 31 is set
@@ -60,7 +60,7 @@ pub fn number(a: Answer) -> u32
         Answer::BadOperatorLine => 3,
         Answer::WindowPastTop => 4,
         Answer::BadMemoryMap => 5,
-        Answer::NoHeader => 6,
+        Answer::NoHeader(_) => 6,
         Answer::UnknownRequest => 7,
         Answer::UndefinedBits => 25,
         Answer::NoAddressFields => 8,
@@ -78,11 +78,13 @@ pub fn number(a: Answer) -> u32
     }
 }
 
-// The item of an answer: the module's index where one has no room, else 0.
+// The item of an answer: how many false headers there are where there is no header, the module's index where one has no
+// room, else 0.
 pub fn item(a: Answer) -> u32
     ensures { λ r. ⌜ r ≡ itemOf a ⌝ }
 {
     match a {
+        Answer::NoHeader(n) => n,
         Answer::NoRoomForModule(i) => i,
         _ => 0,
     }

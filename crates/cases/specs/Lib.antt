@@ -3,4 +3,5 @@ pub mod Table
 pub mod TableLaws
 pub mod WalkLaws
 pub mod RunLaws
+pub mod CountLaws
 pub mod ModelLaws

@@ -2,7 +2,8 @@
 --     Input, lentOf, windowOf    what is lent: a submission, a memory map and a window                rule: REVIEW
 --     Outcome, columns           what comes out: the answer, the plan, and what the kernel is handed and reads
 --     outcomeOf                  what the definitions give
---     Row, rows                  the examples, written `input yields outcome`
+--     Row, longRows, shortRows, rows
+--                                the examples, written `input yields outcome`
 -- The columns stand here as plain numbers, so that a number that is wrong in a definition and in the code alike shows.
 -- Assumes nothing.
 use mathlib.Core.Bool.{Bool, true, false}
@@ -76,8 +77,10 @@ pub record Stretch : Type 0 where
   pub loadEnd : ℕ
   pub extentEnd : ℕ
 
--- of the plan: the segments, and the addresses of the entry, the first module and the information block
+-- of the plan: how many false headers stand before the header, the segments, and the addresses of the entry, the first module
+-- and the information block
 pub record Places : Type 0 where
+  pub falseHeaders : ℕ
   pub segments : List Stretch
   pub entry : ℕ
   pub moduleStart : ℕ
@@ -114,6 +117,7 @@ columns d w =
       number = numberOf (d .answer);
       item = itemOf (d .answer);
       planned = record {
+        falseHeaders = d .plan .kernel .«false_headers»;
         segments = listed (stretchOf (d .plan .kernel)) (d .plan .kernel .count);
         entry = d .plan .kernel .entry .0;
         moduleStart = hello .start .0;
@@ -150,11 +154,11 @@ abbrev loaded : Places → Handed → Outcome
 loaded p h = record { number = 0; item = 0; planned = p; handed = h }
 
 -- a refusal by number and item: the plan is zeros, and the kernel would read the zeros of the window
-abbrev refusal : ℕ → ℕ → Outcome
+abbrev pub refusal : ℕ → ℕ → Outcome
 refusal number item = record {
   number = number;
   item = item;
-  planned = record { segments = []; entry = 0; moduleStart = 0; moduleEnd = 0; blockStart = 0; blockEnd = 0 };
+  planned = record { falseHeaders = 0; segments = []; entry = 0; moduleStart = 0; moduleEnd = 0; blockStart = 0; blockEnd = 0 };
   handed = record { eax = 0; ebx = 0; flags = 0; memLower = 0; memUpper = 0; name = zeros 8 };
 }
 
@@ -176,21 +180,34 @@ linked kind entry start size =
 abbrev shelf : List ℕ
 shelf = 0x73 ∷ 0x68 ∷ 0x65 ∷ 0x6C ∷ 0x66 ∷ 0x20 ∷ 0x31 ∷ 0 ∷ []
 
-unfoldable pub rows : List Row
-rows =
+-- no header in the searched part, so that the false headers of all of it count: a header at the place behind the last that is
+-- searched, and the magic in every word, the last two without room
+unfoldable pub longRows : List Row
+longRows =
+    record { bytes = 9000; place = 8184; words = headerMagic ∷ 0 ∷ 0xE4524FFE ∷ []; hello = false; string = 0; line = 0; low = 0x9FC00; window = 0xC000 } yields refusal 6 0
+    ∷ record { bytes = 8192; place = 0; words = replicate 2048 headerMagic; hello = false; string = 0; line = 0; low = 0x9FC00; window = 0xC000 } yields refusal 6 2046
+    ∷ []
+
+unfoldable pub shortRows : List Row
+shortRows =
     -- flags 0 has the checksum 0xE4524FFE, and 0x00010001 has 0xE4514FFD: headers, but without address fields, or cut off
     record { bytes = 12; place = 0; words = headerMagic ∷ 0 ∷ 0xE4524FFE ∷ []; hello = false; string = 0; line = 0; low = 0x9FC00; window = 0xC000 } yields refusal 8 0
     ∷ record { bytes = 12; place = 0; words = headerMagic ∷ 0x00010001 ∷ 0xE4514FFD ∷ []; hello = false; string = 0; line = 0; low = 0x9FC00; window = 0xC000 } yields refusal 9 0
     -- undefined flag bits, where there are no address fields either, and with a sum of 2^33
     ∷ record { bytes = 12; place = 0; words = headerMagic ∷ 0x00020000 ∷ 0xE4504FFE ∷ []; hello = false; string = 0; line = 0; low = 0x9FC00; window = 0xC000 } yields refusal 25 0
     ∷ record { bytes = 12; place = 0; words = headerMagic ∷ 0xFFFF0001 ∷ 0xE4534FFD ∷ []; hello = false; string = 0; line = 0; low = 0x9FC00; window = 0xC000 } yields refusal 25 0
-    -- the last place that is searched, and the next
+    -- the last place that is searched
     ∷ record { bytes = 9000; place = 8180; words = headerMagic ∷ 0 ∷ 0xE4524FFE ∷ []; hello = false; string = 0; line = 0; low = 0x9FC00; window = 0xC000 } yields refusal 8 0
-    ∷ record { bytes = 9000; place = 8184; words = headerMagic ∷ 0 ∷ 0xE4524FFE ∷ []; hello = false; string = 0; line = 0; low = 0x9FC00; window = 0xC000 } yields refusal 6 0
+    -- three false headers in each other's bytes, and one more without room; one before a header
+    ∷ record { bytes = 20; place = 0; words = headerMagic ∷ headerMagic ∷ headerMagic ∷ headerMagic ∷ []; hello = false; string = 0; line = 0; low = 0x9FC00; window = 0xC000 } yields refusal 6 3
+    ∷ record { bytes = 56; place = 0; words = headerMagic ∷ 0 ∷ 0 ∷ 0 ∷ loading 0x100010 0 0 0x100020; hello = false; string = 0; line = 0; low = 0x9FC00; window = 0xC000 }
+    yields loaded
+    (record { falseHeaders = 1; segments = stretch 0 0x100000 0x100038 0x100038 ∷ []; entry = 0x100020; moduleStart = 0; moduleEnd = 0; blockStart = 0x100038; blockEnd = 0x1000C8 })
+    (record { eax = 0x2BADB002; ebx = 0x100038; flags = 0x249; memLower = 639; memUpper = 7168; name = shelf })
     -- a load that begins with the image, and one that would begin before it
     ∷ record { bytes = 56; place = 16; words = loading 0x100010 0 0 0x100020; hello = false; string = 0; line = 0; low = 0x9FC00; window = 0xC000 }
     yields loaded
-    (record { segments = stretch 0 0x100000 0x100038 0x100038 ∷ []; entry = 0x100020; moduleStart = 0; moduleEnd = 0; blockStart = 0x100038; blockEnd = 0x1000C8 })
+    (record { falseHeaders = 0; segments = stretch 0 0x100000 0x100038 0x100038 ∷ []; entry = 0x100020; moduleStart = 0; moduleEnd = 0; blockStart = 0x100038; blockEnd = 0x1000C8 })
     (record { eax = 0x2BADB002; ebx = 0x100038; flags = 0x249; memLower = 639; memUpper = 7168; name = shelf })
     ∷ record { bytes = 56; place = 12; words = loading 0x100010 0 0 0x100020; hello = false; string = 0; line = 0; low = 0x9FC00; window = 0xC000 } yields refusal 10 0
     -- B1 with a load end, a bss end and an entry one too far
@@ -200,36 +217,36 @@ rows =
     -- B1 in windows that are just long enough for its module, and one byte short
     ∷ record { bytes = 40; place = 0; words = loading 0x100000 0 0x100030 0x100020; hello = true; string = 1; line = 0; low = 0x9FC00; window = 0x1005 }
     yields loaded
-    (record { segments = stretch 0 0x100000 0x100028 0x100030 ∷ []; entry = 0x100020; moduleStart = 0x101000; moduleEnd = 0x101005; blockStart = 0x100030; blockEnd = 0x1000D2 })
+    (record { falseHeaders = 0; segments = stretch 0 0x100000 0x100028 0x100030 ∷ []; entry = 0x100020; moduleStart = 0x101000; moduleEnd = 0x101005; blockStart = 0x100030; blockEnd = 0x1000D2 })
     (record { eax = 0x2BADB002; ebx = 0x100030; flags = 0x249; memLower = 639; memUpper = 7168; name = shelf })
     ∷ record { bytes = 40; place = 0; words = loading 0x100000 0 0x100030 0x100020; hello = true; string = 1; line = 0; low = 0x9FC00; window = 0x1004 } yields refusal 16 0
     -- without its module, in windows that are just long enough for the information block, and one byte short
     ∷ record { bytes = 40; place = 0; words = loading 0x100000 0 0x100030 0x100020; hello = false; string = 0; line = 0; low = 0x9FC00; window = 0xC0 }
     yields loaded
-    (record { segments = stretch 0 0x100000 0x100028 0x100030 ∷ []; entry = 0x100020; moduleStart = 0; moduleEnd = 0; blockStart = 0x100030; blockEnd = 0x1000C0 })
+    (record { falseHeaders = 0; segments = stretch 0 0x100000 0x100028 0x100030 ∷ []; entry = 0x100020; moduleStart = 0; moduleEnd = 0; blockStart = 0x100030; blockEnd = 0x1000C0 })
     (record { eax = 0x2BADB002; ebx = 0x100030; flags = 0x249; memLower = 639; memUpper = 7168; name = shelf })
     ∷ record { bytes = 40; place = 0; words = loading 0x100000 0 0x100030 0x100020; hello = false; string = 0; line = 0; low = 0x9FC00; window = 0xBF } yields refusal 17 0
     -- the same with 641 KiB of usable memory from 0 on, of which the kernel is told 640
     ∷ record { bytes = 40; place = 0; words = loading 0x100000 0 0x100030 0x100020; hello = false; string = 0; line = 0; low = 0xA0400; window = 0xC0 }
     yields loaded
-    (record { segments = stretch 0 0x100000 0x100028 0x100030 ∷ []; entry = 0x100020; moduleStart = 0; moduleEnd = 0; blockStart = 0x100030; blockEnd = 0x1000C0 })
+    (record { falseHeaders = 0; segments = stretch 0 0x100000 0x100028 0x100030 ∷ []; entry = 0x100020; moduleStart = 0; moduleEnd = 0; blockStart = 0x100030; blockEnd = 0x1000C0 })
     (record { eax = 0x2BADB002; ebx = 0x100030; flags = 0x249; memLower = 640; memUpper = 7168; name = shelf })
     -- the longest command line, and one byte more
     ∷ record { bytes = 40; place = 0; words = loading 0x100000 0 0x100030 0x100020; hello = false; string = 0; line = 255; low = 0x9FC00; window = 0x1C0 }
     yields loaded
-    (record { segments = stretch 0 0x100000 0x100028 0x100030 ∷ []; entry = 0x100020; moduleStart = 0; moduleEnd = 0; blockStart = 0x100030; blockEnd = 0x1001C0 })
+    (record { falseHeaders = 0; segments = stretch 0 0x100000 0x100028 0x100030 ∷ []; entry = 0x100020; moduleStart = 0; moduleEnd = 0; blockStart = 0x100030; blockEnd = 0x1001C0 })
     (record { eax = 0x2BADB002; ebx = 0x100030; flags = 0x24D; memLower = 639; memUpper = 7168; name = shelf })
     ∷ record { bytes = 40; place = 0; words = loading 0x100000 0 0x100030 0x100020; hello = false; string = 0; line = 256; low = 0x9FC00; window = 0xC000 } yields refusal 2 0
     -- B1 with the longest string, and one byte more
     ∷ record { bytes = 40; place = 0; words = loading 0x100000 0 0x100030 0x100020; hello = true; string = 127; line = 0; low = 0x9FC00; window = 0x1005 }
     yields loaded
-    (record { segments = stretch 0 0x100000 0x100028 0x100030 ∷ []; entry = 0x100020; moduleStart = 0x101000; moduleEnd = 0x101005; blockStart = 0x100030; blockEnd = 0x100150 })
+    (record { falseHeaders = 0; segments = stretch 0 0x100000 0x100028 0x100030 ∷ []; entry = 0x100020; moduleStart = 0x101000; moduleEnd = 0x101005; blockStart = 0x100030; blockEnd = 0x100150 })
     (record { eax = 0x2BADB002; ebx = 0x100030; flags = 0x249; memLower = 639; memUpper = 7168; name = shelf })
     ∷ record { bytes = 40; place = 0; words = loading 0x100000 0 0x100030 0x100020; hello = true; string = 128; line = 0; low = 0x9FC00; window = 0xC000 } yields refusal 2 0
     -- an ELF image of two segments, with the module between them and the information block behind
     ∷ record { bytes = 136; place = 0; words = linked 0x00030002 0x100080 0x1000A0 4; hello = true; string = 1; line = 0; low = 0x9FC00; window = 0x152 }
     yields loaded
-    (record { segments = stretch 0 0x100000 0x100088 0x100090 ∷ stretch 0x80 0x1000A0 0x1000A4 0x1000B0 ∷ []; entry = 0x100080; moduleStart = 0x100090; moduleEnd = 0x100095; blockStart = 0x1000B0; blockEnd = 0x100152 })
+    (record { falseHeaders = 0; segments = stretch 0 0x100000 0x100088 0x100090 ∷ stretch 0x80 0x1000A0 0x1000A4 0x1000B0 ∷ []; entry = 0x100080; moduleStart = 0x100090; moduleEnd = 0x100095; blockStart = 0x1000B0; blockEnd = 0x100152 })
     (record { eax = 0x2BADB002; ebx = 0x1000B0; flags = 0x249; memLower = 639; memUpper = 7168; name = shelf })
     -- another type, file bytes past the image, segments that share one byte, and an entry in the zeros of the first
     ∷ record { bytes = 136; place = 0; words = linked 0x00030003 0x100080 0x1000A0 4; hello = true; string = 1; line = 0; low = 0x9FC00; window = 0xC000 } yields refusal 18 0
@@ -237,3 +254,6 @@ rows =
     ∷ record { bytes = 136; place = 0; words = linked 0x00030002 0x100080 0x10008F 4; hello = true; string = 1; line = 0; low = 0x9FC00; window = 0xC000 } yields refusal 20 0
     ∷ record { bytes = 136; place = 0; words = linked 0x00030002 0x100088 0x1000A0 4; hello = true; string = 1; line = 0; low = 0x9FC00; window = 0xC000 } yields refusal 14 0
     ∷ []
+
+abbrev pub rows : List Row
+rows = longRows ++ shortRows

@@ -1,6 +1,6 @@
 // An ELF image: the checks on its header and its table, and the kernel of its segments.
-use address::ImageOffset;
 use answer::Answer;
+use kernel::Announcement;
 use kernel::Judged;
 use kernel::Kernel;
 use kernel::MAX_SEGMENTS;
@@ -35,24 +35,24 @@ pub struct Table {
     pub bad: bool,
 }
 
-// The answer of checks 18 to 20 and 14, and the kernel of an ELF image whose Multiboot header stands at `at`.
-pub fn judge(image: &[u8], at: ImageOffset, pages: bool) -> Judged
-    ensures { λ r. ⌜ r ≡ withEntry (firstOf (elfChecks (now (image .entry)) (elfKernel (now (image .entry)) (at .0) pages)) Answer.Load) (elfKernel (now (image .entry)) (at .0) pages) ⌝ }
+// The answer of checks 18 to 20 and 14, and the kernel of an ELF image whose Multiboot header announces so much.
+pub fn judge(image: &[u8], announced: Announcement) -> Judged
+    ensures { λ r. ⌜ r ≡ withEntry (firstOf (elfChecks (now (image .entry)) (elfKernel (now (image .entry)) announced)) Answer.Load) (elfKernel (now (image .entry)) announced) ⌝ }
 {
     let h = read::read_header(image);
     if !check::well_formed(h, image.len()) {
         return kernel::refused(Answer::BadElf);
     }
-    let table = read_table(image, h, at, pages);
+    let table = read_table(image, h, announced);
     let found = table.kernel;
     let answer = check_table(found, table.bad);
     kernel::judge_entry(answer, found)
 }
 
 // The table's segments, in table order, and whether a program header is bad.
-fn read_table(image: &[u8], h: ElfHeader, at: ImageOffset, pages: bool) -> Table
+fn read_table(image: &[u8], h: ElfHeader, announced: Announcement) -> Table
     requires { ⌜ HeaderRead (now image) h × (h .«e_phnum» ≤ maxSegments) ⌝ }
-    ensures { λ r. ⌜ r ≡ record { kernel = elfKernel (now (image .entry)) (at .0) pages; bad = any (badNo (now (image .entry))) (h .«e_phnum») } ⌝ }
+    ensures { λ r. ⌜ r ≡ record { kernel = elfKernel (now (image .entry)) announced; bad = any (badNo (now (image .entry))) (h .«e_phnum») } ⌝ }
 {
     let mut segments = [kernel::no_segment(); MAX_SEGMENTS];
     let mut count = 0;
@@ -67,11 +67,13 @@ fn read_table(image: &[u8], h: ElfHeader, at: ImageOffset, pages: bool) -> Table
         bad = check::or_bad(bad, p, image.len());
         i += 1;
     }
+    let header = announced.header;
     let entry = h.e_entry;
     Table {
         kernel: Kernel {
-            header: at,
-            pages,
+            header,
+            false_headers: announced.false_headers,
+            pages: announced.pages,
             entry,
             segments,
             count,

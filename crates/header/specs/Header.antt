@@ -1,8 +1,9 @@
 -- The Multiboot header of an image.                                                    rule: HEADER
---     headerMagic, searchLimit, shortHeader    the numbers of the rule
---     words                                    the numbers that bytes make, four by four
---     isHeader, headerFrom, header             the search, word by word from the front
--- What a header is in propositions stands in HeaderAt, and that the search finds the lowest in HeaderLaws.
+--     headerMagic, searchLimit, shortHeader      the numbers of the rule
+--     words                                      the numbers that bytes make, four by four
+--     sumIsZero, isHeader, headerFrom, header    the search, word by word from the front
+-- What a header is in propositions stands in HeaderAt, and that the search finds the lowest in HeaderLaws; how many false
+-- headers it passes over stands in FalseHeader.
 -- Assumes nothing.
 use mathlib.Core.Bool.{Bool, cond, _&&_}
 use mathlib.Core.List.{List, [], _∷_}
@@ -33,9 +34,13 @@ words (a ∷ b ∷ []) = []
 words (a ∷ b ∷ c ∷ []) = []
 words (a ∷ b ∷ c ∷ d ∷ s) = number 4 (a ∷ b ∷ c ∷ d ∷ []) ∷ words s
 
--- the first word is the magic, and magic, flags and checksum, summed modulo 2^32, give 0
+-- magic, flags and checksum, summed modulo 2^32, give 0
+abbrev pub sumIsZero : ℕ → ℕ → ℕ → Bool
+sumIsZero m flags checksum = eqb ((m + flags + checksum) % 2 ^ 32) 0
+
+-- the first word is the magic, and the sum is 0
 unfoldable pub isHeader : ℕ → ℕ → ℕ → Bool
-isHeader m flags checksum = eqb m headerMagic && eqb ((m + flags + checksum) % 2 ^ 32) 0
+isHeader m flags checksum = eqb m headerMagic && sumIsZero m flags checksum
 
 -- the lowest of three words in a row that are a header's; the first word stands at the offset `at`
 unfoldable pub headerFrom : ℕ → List ℕ → Search

@@ -1,5 +1,6 @@
--- Where a header stands, in propositions.                                              rule: HEADER
---     HeaderAt    a header stands at an offset of the image
+-- Where headers and false headers stand, in propositions.                              rule: HEADER
+--     HeaderAt         a header stands at an offset of the image
+--     FalseHeaderAt    a false header stands there
 -- Assumes nothing.
 use mathlib.Core.Path.{_≡_}
 use mathlib.Core.List.{List}
@@ -15,3 +16,11 @@ pub record HeaderAt (image : List ℕ) (o : ℕ) : Type 0 where
   pub early : o + 12 ≤ 8192
   pub marked : numberAt 4 image o ≡ 0x1BADB002
   pub sum : (numberAt 4 image o + numberAt 4 image (o + 4) + numberAt 4 image (o + 8)) % 2 ^ 32 ≡ 0
+
+-- a false header stands at the offset o: the same, but the sum is not 0 modulo 2^32
+pub record FalseHeaderAt (image : List ℕ) (o : ℕ) : Type 0 where
+  pub multiple : o % 4 ≡ 0
+  pub whole : o + 12 ≤ length image
+  pub early : o + 12 ≤ 8192
+  pub marked : numberAt 4 image o ≡ 0x1BADB002
+  pub sum : (numberAt 4 image o + numberAt 4 image (o + 4) + numberAt 4 image (o + 8)) % 2 ^ 32 ≡ 0 → ⊥

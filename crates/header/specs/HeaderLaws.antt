@@ -74,7 +74,7 @@ drop-take (suc at) n [] = rw (take-nil, take-nil)
 drop-take (suc at) n (x ∷ s) = rw suc-add (drop-take at n s)
 
 -- a word of the first n bytes is the image's
-word-take : (n : ℕ) (s : List ℕ) (at : ℕ) → at + 4 ≤ n → numberAt 4 (take n s) at ≡ numberAt 4 s at
+pub word-take : (n : ℕ) (s : List ℕ) (at : ℕ) → at + 4 ≤ n → numberAt 4 (take n s) at ≡ numberAt 4 s at
 word-take n s at l =
     let e : n ≡ at + (n - at) = omega arith in
     rw (e, drop-take at (n - at) s) (number-take 4 (n - at) (drop at s) (omega arith))

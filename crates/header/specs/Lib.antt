@@ -1,5 +1,7 @@
 -- The definitions that the contracts of `header` cite, and their laws.
 pub mod Header
+pub mod FalseHeader
 pub mod WalkLaws
 pub mod HeaderAt
 pub mod HeaderLaws
+pub mod FalseHeaderLaws

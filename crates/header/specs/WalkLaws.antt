@@ -1,8 +1,9 @@
 -- Laws of the header search, step by step.
+--     words-two, words-three            the first words of a list
 --     found-at, passed-at, none-left    a header at a place, none there, and too few bytes left
---     whole-image, first-part           the part that is searchLimit
---     other-magic, by-sum               the test of three words
---     two-sums                          the sums that pass it
+--     whole-image                       a short image is searched whole
+--     by-sum                            the sum of three words
+--     two-sums                          the sums of a header
 -- Assumes nothing.
 use mathlib.Core.Path.{_≡_, refl, ap, sym}
 use mathlib.Core.Bool.{true, false}
@@ -10,14 +11,14 @@ use mathlib.Core.List.{List, [], _∷_}
 use mathlib.Core.Logic.{_↔_, ⊎-elim, _⊎_, inl, inr}
 use Prim.Native.Nat.{ℕ, _+_, _*_, _%_, _^_, _≤_, _<_}
 use native.Mathlib.Omega.{arith}
-use borrow.Author.Tests.{eqb-true, eq-eqb, ne-eqb}
+use borrow.Author.Tests.{eqb-true, eq-eqb}
 use lib.Dec.{eqb}
-use lib.ListN.{length, take, drop, length-drop}
+use lib.ListN.{length, drop, length-drop}
 use lib.Seq.{drop-drop, take-all}
 use Rattle.laws.specs.TestLaws.{lt-or-le}
 use Rattle.number.specs.Number.{number, numberAt}
 use Rattle.header.specs.declared.Search.the-variants.{At, Nothing}
-use Rattle.header.specs.Header.{headerMagic, searchLimit, shortHeader, words, isHeader, headerFrom, header}
+use Rattle.header.specs.Header.{headerMagic, searchLimit, shortHeader, words, sumIsZero, isHeader, headerFrom, header}
 
 words-cons : (s : List ℕ) → 4 ≤ length s → words s ≡ number 4 s ∷ words (drop 4 s)
 unfolding words number
@@ -27,14 +28,14 @@ words-cons (a ∷ b ∷ []) h = absurd (omega arith)
 words-cons (a ∷ b ∷ c ∷ []) h = absurd (omega arith)
 words-cons (a ∷ b ∷ c ∷ d ∷ s) h = refl
 
-words-two : (s : List ℕ) → shortHeader ≤ length s → words (drop 4 s) ≡ number 4 (drop 4 s) ∷ number 4 (drop 8 s) ∷ words (drop 12 s)
+pub words-two : (s : List ℕ) → shortHeader ≤ length s → words (drop 4 s) ≡ number 4 (drop 4 s) ∷ number 4 (drop 8 s) ∷ words (drop 12 s)
 words-two s h =
     let h4 : 4 ≤ length (drop 4 s) = simp length-drop (omega arith) in
     let h8 : 4 ≤ length (drop 8 s) = simp length-drop (omega arith) in
     rw (words-cons (drop 4 s), drop-drop 4 4 s, words-cons (drop 8 s), drop-drop 4 8 s)
 
 -- 12 bytes are three words
-words-three : (s : List ℕ) → shortHeader ≤ length s → words s ≡ number 4 s ∷ number 4 (drop 4 s) ∷ number 4 (drop 8 s) ∷ words (drop 12 s)
+pub words-three : (s : List ℕ) → shortHeader ≤ length s → words s ≡ number 4 s ∷ number 4 (drop 4 s) ∷ number 4 (drop 8 s) ∷ words (drop 12 s)
 words-three s h = rw (words-cons s (omega arith)) (ap (λ (l : List ℕ). number 4 s ∷ l) (words-two s h))
 
 header-here : (at m f k : ℕ) (ws : List ℕ) → isHeader m f k ≡ true → headerFrom at (m ∷ f ∷ k ∷ ws) ≡ At (record { 0 = at })
@@ -85,20 +86,11 @@ pub whole-image : (s : List ℕ) → length s ≤ searchLimit → headerFrom 0 (
 unfolding header
 whole-image s h = ap (λ (l : List ℕ). headerFrom 0 (words l)) (sym (take-all searchLimit s h))
 
-pub first-part : (s : List ℕ) → headerFrom 0 (words (take searchLimit s)) ≡ header s
-unfolding header
-first-part s = refl
-
-pub other-magic : (m f k : ℕ) → (m ≡ headerMagic → ⊥) → false ≡ isHeader m f k
-unfolding isHeader
-other-magic m f k h = rw (ne-eqb m headerMagic h)
-
 -- t is the sum of the three, added one by one modulo 2^32
-pub by-sum : (m f k s t : ℕ) → m ≡ headerMagic → s ≡ (m + f) % 2 ^ 32 → t ≡ (s + k) % 2 ^ 32 → eqb t 0 ≡ isHeader m f k
-unfolding isHeader
-by-sum m f k s t e p q =
+pub by-sum : (m f k s t : ℕ) → s ≡ (m + f) % 2 ^ 32 → t ≡ (s + k) % 2 ^ 32 → eqb t 0 ≡ sumIsZero m f k
+by-sum m f k s t p q =
     let z : t ≡ (m + f + k) % 2 ^ 32 = omega arith in
-    rw (eq-eqb m headerMagic e, z)
+    rw z
 
 -- two words make a header with the magic exactly where the sum is 2^32 or, as high flags have it, 2^33
 pub two-sums : (f k : ℕ) → f < 2 ^ 32 → k < 2 ^ 32 → (isHeader headerMagic f k ≡ true) ↔ ((headerMagic + f + k ≡ 2 ^ 32) ⊎ (headerMagic + f + k ≡ 2 ^ 33))

@@ -1,9 +1,12 @@
 // The search for a Multiboot header.
 use address::ImageOffset;
 ghost use mathlib.Core.Path.{_≡_};
-ghost use Prim.Native.Nat.{_+_, _^_, _<_};
+ghost use Prim.Native.Nat.{_+_, _^_, _≤_, _<_};
+ghost use lib.Dec.{eqb};
+ghost use lib.ListN.{length};
 ghost use Rattle.number.specs.Number.{numberAt};
-ghost use Rattle.header.specs.Header.{shortHeader, words, isHeader, headerFrom, header};
+ghost use Rattle.header.specs.Header.{headerMagic, searchLimit, shortHeader, sumIsZero};
+ghost use Rattle.header.specs.FalseHeader.{searched};
 
 // A header begins with this number.
 const HEADER_MAGIC: u32 = 0x1BADB002;
@@ -23,38 +26,60 @@ pub enum Search {
     Nothing,
 }
 
-// Whether a header's magic, flags and checksum stand at the offset `at`.
-fn is_header(s: &[u8], at: usize) -> bool
+// What the search answers: the header, and how many false headers it passed over.
+pub struct Searched {
+    pub header: Search,
+    pub false_headers: u32,
+}
+
+// Whether the magic stands at the offset `at`.
+fn has_magic(s: &[u8], at: usize) -> bool
+    ensures { λ r. ⌜ r ≡ eqb (numberAt 4 (now (s .entry)) at) headerMagic ⌝ }
+{
+    number::read_u32(s, at) == HEADER_MAGIC
+}
+
+// Whether magic, flags and checksum at the offset `at`, summed modulo 2^32, give 0.
+fn sums_to_zero(s: &[u8], at: usize) -> bool
     requires { ⌜ at + shortHeader < 2 ^ 64 ⌝ }
-    ensures { λ r. ⌜ r ≡ isHeader (numberAt 4 (now (s .entry)) at) (numberAt 4 (now (s .entry)) (at + 4)) (numberAt 4 (now (s .entry)) (at + 8)) ⌝ }
+    ensures { λ r. ⌜ r ≡ sumIsZero (numberAt 4 (now (s .entry)) at) (numberAt 4 (now (s .entry)) (at + 4)) (numberAt 4 (now (s .entry)) (at + 8)) ⌝ }
 {
     let magic = number::read_u32(s, at);
     let flags = number::read_u32(s, at + 4);
     let checksum = number::read_u32(s, at + 8);
     let sum = std::num::wrapping_add_u32(std::num::wrapping_add_u32(magic, flags), checksum);
-    if magic != HEADER_MAGIC {
-        return false;
-    }
     sum == 0
 }
 
-// The lowest header in the bytes.
-fn first_header(s: &[u8]) -> Search
-    ensures { λ r. ⌜ r ≡ headerFrom 0 (words (now (s .entry))) ⌝ }
+// The lowest header in the bytes of a searched part, and how many false headers stand before it.
+fn first_header(s: &[u8]) -> Searched
+    requires { ⌜ length (now s) ≤ searchLimit ⌝ }
+    ensures { λ r. ⌜ r ≡ searched (now (s .entry)) ⌝ }
 {
     let mut at = 0;
+    let mut passed = 0;
     while SHORT_HEADER <= s.len() - at {
-        if is_header(s, at) {
-            return Search::At(ImageOffset(at));
+        if has_magic(s, at) {
+            if sums_to_zero(s, at) {
+                let header = Search::At(ImageOffset(at));
+                return Searched {
+                    header,
+                    false_headers: passed,
+                };
+            }
+            passed += 1;
         }
         at += STEP;
     }
-    Search::Nothing
+    Searched {
+        header: Search::Nothing,
+        false_headers: passed,
+    }
 }
 
-// The header of an image: the lowest in its searched part.
-pub fn find_header(image: &[u8]) -> Search
-    ensures { λ r. ⌜ r ≡ header (now (image .entry)) ⌝ }
+// The header of an image: the lowest in its searched part; and how many false headers the search passed over.
+pub fn find_header(image: &[u8]) -> Searched
+    ensures { λ r. ⌜ r ≡ searched (now (image .entry)) ⌝ }
 {
     if image.len() <= SEARCH_LIMIT {
         first_header(image)

@@ -29,6 +29,7 @@ use Rattle.answer.specs.declared.Answer.the-variants.{Load, NoHeader, HeaderCut
 use Rattle.header.specs.declared.Search.{Search}
 use Rattle.header.specs.declared.Search.the-variants.{At, Nothing}
 use Rattle.header.specs.Header.{headerMagic, searchLimit, shortHeader, header}
+use Rattle.header.specs.FalseHeader.{falseHeaders}
 use Rattle.header.specs.HeaderLaws.{header-lowest}
 use Rattle.kernel.specs.declared.Kernel.{Kernel}
 use Rattle.kernel.specs.Kernel.{maxSegments, noSegment, kernelWith, segmentNo, extentNo}
@@ -44,7 +45,7 @@ use Rattle.elf.specs.GoodElf.{SegmentAt}
 use Rattle.elf.specs.ElfLaws.{tabled, entry-is, elf-passed}
 use Rattle.image.specs.declared.load.AddressFields.{AddressFields}
 use Rattle.image.specs.Load.{flagsAt, fieldsAt, onPages, loadLength, loadEnd}
-use Rattle.image.specs.Judged.{noHeader, offsetOf, headerOffset, headerFlags, headerFields, firstLoaded, countLoaded, undefinedBits, cutOff, beforeImage, pastImage, isAddressed, segmentFor, kernelFor, fieldsKernel, kernelOf, headerChecks, loadChecks, fieldChecks, kindChecks, imageChecks}
+use Rattle.image.specs.Judged.{noHeader, offsetOf, headerOffset, headerFlags, announcement, headerFields, firstLoaded, countLoaded, undefinedBits, cutOff, beforeImage, pastImage, isAddressed, segmentFor, kernelFor, fieldsKernel, kernelOf, headerChecks, loadChecks, fieldChecks, kindChecks, imageChecks}
 use Rattle.image.specs.LoadLaws.{offset-inside}
 use Rattle.image.specs.Judge.{judged}
 use Rattle.image.specs.Calculated.{Announced, Calculated}
@@ -87,7 +88,7 @@ high-sum f k l m e =
 -- the flags choose between the checks on address fields and those on ELF, and between the kernels
 module _ (image : List ℕ) where
   abbrev elfIn : Kernel
-  elfIn = elfKernel image (headerOffset image) (onPages (headerFlags image))
+  elfIn = elfKernel image (announcement image)
 
   module _ (a : isAddressed image ≡ true) where
     pub kind-fields : firstOf (kindChecks image) Load ≡ firstOf (fieldChecks image) Load
@@ -146,7 +147,7 @@ image-passed image e =
     let a = or-else-load _ _ (ap isLoad (sym (chain-append (headerChecks image ++ kindChecks image) (entryChecks (kernelOf image)) (front-refuses image)) ∙ e)) in
     let b = or-else-load _ _ (ap isLoad (sym (chain-append (headerChecks image) (kindChecks image) (header-refuses image))) ∙ a .0) in
     record {
-      found = check-passed (noHeader (header image)) NoHeader _ refl (load-is _ (header-refuses image) (b .0)) .0;
+      found = check-passed (noHeader (header image)) (NoHeader (falseHeaders image)) _ refl (load-is _ (header-refuses image) (b .0)) .0;
       kind = load-is _ (kind-refuses image) (b .1);
       entered = check-passed (entryOutside (kernelOf image)) EntryOutsideLoad [] refl (load-is _ (entry-refuses image) (a .1)) .0;
     }
@@ -170,6 +171,7 @@ fields-passed image e =
 pub record GoodKernel (image : List ℕ) (k : Kernel) : Type 0 where
   -- the header is the one that the search finds
   pub found : header image ≡ At (k .header)
+  pub counted : k .«false_headers» ≡ falseHeaders image
   pub early : k .header .0 + shortHeader ≤ searchLimit
   pub pages : k .pages ≡ onPages (flagsAt image (k .header .0))
   -- its segments, and zeros past the last
@@ -207,7 +209,7 @@ fields-entry-is image a = rw (kernel-fields image a) (one-entry-is image)
 
 pub elf-entry-is : (image : List ℕ) → isAddressed image ≡ false
     → (entryOutside (kernelOf image) ≡ true) ↔ ((i : ℕ) → SegmentAt image i → (programHeaderNo image i .«p_paddr» .0 ≤ elfHeader image .«e_entry» .0) × (elfHeader image .«e_entry» .0 < programHeaderNo image i .«p_paddr» .0 + programHeaderNo image i .«p_filesz») → ⊥)
-elf-entry-is image a = rw (kernel-elf image a) (entry-is image (headerOffset image) (onPages (headerFlags image)))
+elf-entry-is image a = rw (kernel-elf image a) (entry-is image (announcement image))
 
 module _ (image : List ℕ) (e : firstOf (imageChecks image) Load ≡ Load) where
   -- by address fields
@@ -240,10 +242,11 @@ module _ (image : List ℕ) (e : firstOf (imageChecks image) Load ≡ Load) wher
         let f = there (header image) (image-passed image e .found) in
         record {
           found = f;
+          counted = refl;
           early = header-lowest image (fieldsKernel image .header) f .0 .early;
           pages = refl;
           few = omega arith;
-          rest = kernel-past (headerOffset image) (onPages (headerFlags image)) (headerFields image .«entry_addr») (segmentFor (headerFields image) (firstLoaded image) (countLoaded image) ∷ []);
+          rest = kernel-past (announcement image) (headerFields image .«entry_addr») (segmentFor (headerFields image) (firstLoaded image) (countLoaded image) ∷ []);
           segments = one-segment;
           apart = λ i j l m. absurd (omega arith);
           entered = entry-in;
@@ -271,10 +274,11 @@ module _ (image : List ℕ) (e : firstOf (imageChecks image) Load ≡ Load) wher
     unfolding elfKernel kernelWith
     elf-good =
         let f = there (header image) (image-passed image e .found) in
-        let p = elf-passed image (headerOffset image) (onPages (headerFlags image)) (sym (kind-elf image a) ∙ image-passed image e .kind) in
-        let t = tabled image (headerOffset image) (onPages (headerFlags image)) in
+        let p = elf-passed image (announcement image) (sym (kind-elf image a) ∙ image-passed image e .kind) in
+        let t = tabled image (announcement image) in
         record {
           found = f;
+          counted = refl;
           early = header-lowest image (elfIn image .header) f .0 .early;
           pages = refl;
           few = p .few;
@@ -311,4 +315,4 @@ module _ (image : List ℕ) (e : firstOf (imageChecks image) Load ≡ Load) wher
   listed b =
       let z : headerFlags image / 2 ^ 16 % 2 ≡ 0 = omega (arith, kind-is) in
       let a : isAddressed image ≡ false = not-to-false _ (eq-eqb _ 0 z) in
-      subst (Tabled image) (sym (kernel-elf image a)) (tabled image (headerOffset image) (onPages (headerFlags image)))
+      subst (Tabled image) (sym (kernel-elf image a)) (tabled image (announcement image))

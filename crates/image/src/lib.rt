@@ -2,6 +2,7 @@
 use address::ImageOffset;
 use answer::Answer;
 use header::Search;
+use kernel::Announcement;
 use kernel::Judged;
 use kernel::Kernel;
 use kernel::MAX_SEGMENTS;
@@ -11,10 +12,11 @@ ghost use mathlib.Core.Path.{_≡_};
 ghost use Prim.Native.Nat.{_^_, _<_};
 ghost use Rattle.laws.specs.Checks.{firstOf};
 ghost use Rattle.header.specs.Header.{header};
+ghost use Rattle.header.specs.FalseHeader.{falseHeaders};
 ghost use Rattle.kernel.specs.Judge.{withEntry};
-ghost use Rattle.image.specs.Load.{flagsAt, onPages, loadLength, loadEnd};
+ghost use Rattle.image.specs.Load.{flagsAt, loadLength, loadEnd};
 ghost use Rattle.image.specs.Narrow.{Narrow};
-ghost use Rattle.image.specs.Judged.{headerFlags, loadChecks, kernelFor, fieldsKernel, fieldChecks, kindChecks, kernelOf};
+ghost use Rattle.image.specs.Judged.{announcement, loadChecks, kernelFor, fieldsKernel, fieldChecks, kindChecks, kernelOf};
 ghost use Rattle.image.specs.Judge.{judged};
 
 mod check;
@@ -24,15 +26,18 @@ mod load;
 pub fn judge(image: &[u8]) -> Judged
     ensures { λ r. ⌜ r ≡ judged (now (image .entry)) ⌝ }
 {
-    match header::find_header(image) {
-        Search::Nothing => kernel::refused(Answer::NoHeader),
-        Search::At(at) => judge_header(image, at),
+    let searched = header::find_header(image);
+    let passed = searched.false_headers;
+    let found = searched.header;
+    match found {
+        Search::Nothing => kernel::refused(Answer::NoHeader(passed)),
+        Search::At(at) => judge_header(image, at, passed),
     }
 }
 
-// The answer for an image whose header was found.
-fn judge_header(image: &[u8], at: ImageOffset) -> Judged
-    requires { ⌜ header (now image) ≡ Search.At at ⌝ }
+// The answer for an image whose header was found behind so many false ones.
+fn judge_header(image: &[u8], at: ImageOffset, passed: u32) -> Judged
+    requires { ⌜ (header (now image) ≡ Search.At at) × (passed ≡ falseHeaders (now image)) ⌝ }
     ensures { λ r. ⌜ r ≡ judged (now (image .entry)) ⌝ }
 {
     let flags = number::read_u32(image, at.0 + 4);
@@ -45,63 +50,56 @@ fn judge_header(image: &[u8], at: ImageOffset) -> Judged
     if check::unknown_kind(image, flags) {
         return kernel::refused(Answer::NoAddressFields);
     }
-    judge_kind(image, at, flags)
+    judge_kind(image, at, passed, flags)
 }
 
 // The answer of the checks on address fields or on an ELF image, as the flags say, and of the one on the entry.
-fn judge_kind(image: &[u8], at: ImageOffset, flags: u32) -> Judged
-    requires { ⌜ (header (now image) ≡ Search.At at) × (flags ≡ flagsAt (now image) (at .0)) ⌝ }
+fn judge_kind(image: &[u8], at: ImageOffset, passed: u32, flags: u32) -> Judged
+    requires { ⌜ (header (now image) ≡ Search.At at) × (passed ≡ falseHeaders (now image)) × (flags ≡ flagsAt (now image) (at .0)) ⌝ }
     ensures { λ r. ⌜ r ≡ withEntry (firstOf (kindChecks (now (image .entry))) Answer.Load) (kernelOf (now (image .entry))) ⌝ }
 {
-    let pages = load::on_pages(flags);
+    let announced = Announcement {
+        header: at,
+        false_headers: passed,
+        pages: load::on_pages(flags),
+    };
     if check::no_addresses(flags) {
-        return elf::judge(image, at, pages);
+        return elf::judge(image, announced);
     }
-    judge_fields(image, at, pages)
+    judge_fields(image, announced)
 }
 
-// The answer of the checks on the address fields of the header at `at`, and of the one on the entry.
-fn judge_fields(image: &[u8], at: ImageOffset, pages: bool) -> Judged
-    requires { ⌜ (header (now image) ≡ Search.At at) × (pages ≡ onPages (headerFlags (now image))) ⌝ }
+// The answer of the checks on the address fields of the header found, and of the one on the entry.
+fn judge_fields(image: &[u8], announced: Announcement) -> Judged
+    requires { ⌜ (header (now image) ≡ Search.At (announced .header)) × (announced ≡ announcement (now image)) ⌝ }
     ensures { λ r. ⌜ r ≡ withEntry (firstOf (fieldChecks (now (image .entry))) Answer.Load) (fieldsKernel (now (image .entry))) ⌝ }
 {
+    let at = announced.header;
     if check::cut_off(at, image.len()) {
         return kernel::refused(Answer::HeaderCutOff);
     }
     let h = load::read_fields(image, at.0);
     match load::load_offset(h, at) {
         Search::Nothing => kernel::refused(Answer::LoadBeforeImage),
-        Search::At(offset) => judge_load(h, pages, at, offset, image.len()),
+        Search::At(offset) => judge_load(h, announced, offset, image.len()),
     }
 }
 
-// The answer for an image of n bytes whose load begins at the offset, once its header at `at` is accepted.
-fn judge_load(
-    h: AddressFields,
-    pages: bool,
-    at: ImageOffset,
-    offset: ImageOffset,
-    n: usize,
-) -> Judged
+// The answer for an image of n bytes whose load begins at the offset, once its header is accepted.
+fn judge_load(h: AddressFields, announced: Announcement, offset: ImageOffset, n: usize) -> Judged
     requires { ⌜ Narrow h × (offset .0 < n) × (n < 2 ^ 63) ⌝ }
-    ensures { λ r. ⌜ r ≡ withEntry (firstOf (loadChecks h (offset .0) (loadLength h (offset .0) n) n) Answer.Load) (kernelFor h pages (at .0) (offset .0) (loadLength h (offset .0) n)) ⌝ }
+    ensures { λ r. ⌜ r ≡ withEntry (firstOf (loadChecks h (offset .0) (loadLength h (offset .0) n) n) Answer.Load) (kernelFor h announced (offset .0) (loadLength h (offset .0) n)) ⌝ }
 {
     let len = load::load_length(h, offset, n);
     let answer = check::check_load(h, offset, len, n);
-    let found = kernel_for(h, pages, at, offset, len);
+    let found = kernel_for(h, announced, offset, len);
     kernel::judge_entry(answer, found)
 }
 
-// The kernel of a header at `at`, with `len` bytes to load from the offset.
-fn kernel_for(
-    h: AddressFields,
-    pages: bool,
-    at: ImageOffset,
-    offset: ImageOffset,
-    len: usize,
-) -> Kernel
+// The kernel of a header that announces so much, with `len` bytes to load from the offset.
+fn kernel_for(h: AddressFields, announced: Announcement, offset: ImageOffset, len: usize) -> Kernel
     requires { ⌜ loadEnd h len < 2 ^ 64 ⌝ }
-    ensures { λ r. ⌜ r ≡ kernelFor h pages (at .0) (offset .0) len ⌝ }
+    ensures { λ r. ⌜ r ≡ kernelFor h announced (offset .0) len ⌝ }
 {
     let start = h.load_addr;
     let load_end = load::load_end(h, len);
@@ -113,10 +111,12 @@ fn kernel_for(
         extent_end,
         offset,
     };
+    let header = announced.header;
     let entry = h.entry_addr;
     Kernel {
-        header: at,
-        pages,
+        header,
+        false_headers: announced.false_headers,
+        pages: announced.pages,
         entry,
         segments,
         count: 1,

@@ -3,13 +3,14 @@
 --     kernelWith                          the kernel of these segments
 --     segmentNo, extentNo                 the segment of an index, and its extent
 -- Assumes nothing.
-use mathlib.Core.Bool.{Bool, false}
+use mathlib.Core.Bool.{false}
 use mathlib.Core.List.{List, _++_}
 use Prim.Native.Nat.{ℕ, _-_}
 use lib.ListN.{length, getD, replicate}
 use Rattle.address.specs.declared.PhysAddr.{PhysAddr}
 use Rattle.address.specs.declared.Span.{Span}
 use Rattle.kernel.specs.declared.Segment.{Segment}
+use Rattle.kernel.specs.declared.Announcement.{Announcement}
 use Rattle.kernel.specs.declared.Kernel.{Kernel}
 
 -- at most so many segments
@@ -20,15 +21,23 @@ abbrev pub noSegment : Segment
 noSegment = record { start = record { 0 = 0 }; «load_end» = record { 0 = 0 }; «extent_end» = record { 0 = 0 }; offset = record { 0 = 0 } }
 
 abbrev pub noKernel : Kernel
-noKernel = record { header = record { 0 = 0 }; pages = false; entry = record { 0 = 0 }; segments = replicate maxSegments noSegment; count = 0 }
+noKernel = record { header = record { 0 = 0 }; «false_headers» = 0; pages = false; entry = record { 0 = 0 }; segments = replicate maxSegments noSegment; count = 0 }
 
 -- these segments, zeros past the last
 abbrev pub placesOf : List Segment → List Segment
 placesOf ss = ss ++ replicate (maxSegments - length ss) noSegment
 
--- the kernel of a header at o, with its entry and these segments
-unfoldable pub kernelWith : ℕ → Bool → PhysAddr → List Segment → Kernel
-kernelWith o pages entry ss = record { header = record { 0 = o }; pages = pages; entry = entry; segments = placesOf ss; count = length ss }
+-- the kernel of a header that announces so much, with its entry and these segments
+unfoldable pub kernelWith : Announcement → PhysAddr → List Segment → Kernel
+kernelWith announced entry ss =
+    record {
+      header = announced .header;
+      «false_headers» = announced .«false_headers»;
+      pages = announced .pages;
+      entry = entry;
+      segments = placesOf ss;
+      count = length ss;
+    }
 
 abbrev pub segmentNo : Kernel → ℕ → Segment
 segmentNo k i = getD (k .segments) i noSegment

@@ -21,10 +21,18 @@ pub struct Segment {
     pub offset: ImageOffset,
 }
 
-// What an image asks for: where its header stands, whether modules lie on pages, the entry, and its segments; past the
-// last segment the entries are zero.
+// What a header announces, whatever kind of image it stands in: where it stands, how many false headers stand before it, and
+// whether modules lie on pages.
+pub struct Announcement {
+    pub header: ImageOffset,
+    pub false_headers: u32,
+    pub pages: bool,
+}
+
+// What an image asks for: what its header announces, the entry, and its segments; past the last segment the entries are zero.
 pub struct Kernel {
     pub header: ImageOffset,
+    pub false_headers: u32,
     pub pages: bool,
     pub entry: PhysAddr,
     pub segments: [Segment; MAX_SEGMENTS],
@@ -55,6 +63,7 @@ pub fn no_kernel() -> Kernel
 {
     Kernel {
         header: ImageOffset(0),
+        false_headers: 0,
         pages: false,
         entry: PhysAddr(0),
         segments: [no_segment(); MAX_SEGMENTS],

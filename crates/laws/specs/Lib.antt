@@ -2,7 +2,9 @@
 pub mod Tests
 pub mod Passing
 pub mod PassingLaws
+pub mod HowMany
 pub mod TestLaws
+pub mod HowManyLaws
 pub mod First
 pub mod FirstLaws
 pub mod Checks

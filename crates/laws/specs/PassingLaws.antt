@@ -4,8 +4,11 @@
 --     passing-at                     each of them is below the bound and passes
 --     passing-rising                 they rise
 --     passing-every                  every number that passes is among them
+--     passing-past                   no number passes from m on
+--     passing-front                  the first number, and those behind it
+--     passing-same                   tests that agree
 -- Assumes nothing.
-use mathlib.Core.Path.{_≡_, refl, _∙_}
+use mathlib.Core.Path.{_≡_, refl, ap, sym, _∙_}
 use mathlib.Core.Bool.{Bool, true, false, false≢true}
 use mathlib.Core.List.{List, [], _∷_, _++_}
 use mathlib.Core.Logic.{⊎-elim}
@@ -103,3 +106,27 @@ module _ (f : ℕ → Bool) where
       (λ (z : m ≡ n). let u : f n ≡ true = rw z at e in absurd (false≢true (rw t at u)))
       (λ (u : m < n). passing-every n m u e)
       (eq-or-lt-of-le (le-of-suc-le-suc l)))
+
+  pub passing-past : (m n : ℕ) → m ≤ n → ((k : ℕ) → m ≤ k → f k ≡ false) → passing f n ≡ passing f m
+  passing-past m zero l h = ap (passing f) (omega arith)
+  passing-past m (suc n) l h =
+      ⊎-elim
+      (λ (e : m ≡ suc n). ap (passing f) (sym e))
+      (λ (u : m < suc n). rw (← add-one n, passing-left n (h n (omega arith))) (passing-past m n (omega arith) h))
+      (eq-or-lt-of-le l)
+
+  pub passing-front : (n : ℕ) → length (passing f (suc n)) ≡ length (passing f 1) + length (passing (λ k. f (suc k)) n)
+  unfolding passing
+  passing-front zero = omega arith
+  passing-front (suc n) =
+      let xs = passing f (suc n) in
+      let ys = passing (λ k. f (suc k)) n in
+      ⊎-elim
+      (λ (e : f (suc n) ≡ true). rw e (omega (arith, passing-front n, length-more xs (suc n), length-more ys n)))
+      (λ (e : f (suc n) ≡ false). rw e (passing-front n))
+      (true-or-false (f (suc n)))
+
+pub passing-same : (f g : ℕ → Bool) → ((k : ℕ) → f k ≡ g k) → (n : ℕ) → passing f n ≡ passing g n
+unfolding passing
+passing-same f g e zero = refl
+passing-same f g e (suc n) = rw (e n, passing-same f g e n) refl

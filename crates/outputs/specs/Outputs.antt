@@ -36,8 +36,9 @@ pub record Exported (q : Plan) (p : List ℕ) : Type 0 where
   -- two words for each of 16 modules
   pub module-starts : (i : ℕ) → i < 16 → getD p (56 + 2 * i) 0 ≡ spanNo (q .modules) i .start .0
   pub module-ends : (i : ℕ) → i < 16 → getD p (56 + 2 * i + 1) 0 ≡ spanNo (q .modules) i .end .0
-  -- and zeros
-  pub rest : (k : ℕ) → 88 ≤ k → getD p k 0 ≡ 0
+  -- the count of false headers, and zeros
+  pub false-headers : getD p 88 0 ≡ q .kernel .«false_headers»
+  pub rest : (k : ℕ) → 89 ≤ k → getD p k 0 ≡ 0
 
 -- the line of a segment: start, load end, extent end, and the entry
 abbrev pub kernelLineOf : Plan → ℕ → List ℕ

@@ -1,7 +1,8 @@
 -- The theorem: everything that `Outputs` states holds, for all that can be lent.
 --     joined-at, joined-only                                a number in one of many rows; rows of nothing past the last
 --     Low                                                   every word of a list is below 2^32
---     length-words, segment-word, module-word, last-word    which word of a decision stands where
+--     length-words, segment-word, module-word, behind-word, last-word
+--                                                           which word of a decision stands where
 --     GoodPlan, good-plan                                   what is known of the plan of a load
 --     words-of, low-of, lines-of                            its words and its lines
 --     refused, item-low                                     the words of a refusal, and how large its item is
@@ -28,6 +29,7 @@ use Rattle.answer.specs.Answer.{numberOf, itemOf}
 use Rattle.answer.specs.AnswerLaws.{item-none, number-most}
 use Rattle.submission.specs.Layout.{layoutOf}
 use Rattle.submission.specs.Format.{maxModules, moduleCount}
+use Rattle.header.specs.FalseHeaderLaws.{false-most}
 use Rattle.kernel.specs.Kernel.{maxSegments, segmentNo}
 use Rattle.image.specs.JudgedLaws.{good-kernel}
 use Rattle.decision.specs.declared.Plan.{Plan}
@@ -39,7 +41,7 @@ use Rattle.decision.specs.Plan.{noPlan}
 use Rattle.decision.specs.Decision.{planIn, decisionOf}
 use Rattle.loader.specs.LoadLaws.{Loads, loads, span-inside, kernel-span, module-span, block-span, modules-past}
 use Rattle.loader.specs.WriteLaws.{spans-low}
-use Rattle.theorems.specs.AnsweredLaws.{number-load, load-plan, refusal-plan, room-item}
+use Rattle.theorems.specs.AnsweredLaws.{number-load, load-plan, refusal-plan, room-item, header-item}
 use Rattle.viertompu.specs.Joined.{joined}
 use Rattle.viertompu.specs.JoinedLaws.{length-joined}
 use Rattle.viertompu.specs.Words.{headWords, segmentWords, moduleWords, segmentsWords, modulesWords, planWords}
@@ -94,7 +96,7 @@ low-zeros : (n : ℕ) → Low (zeros n)
 low-zeros zero = none
 low-zeros (suc n) = more {a = 0} (omega arith) (low-zeros n)
 
--- the words of a decision: 8, then 48 of segments, 32 of modules, and 8 zeros
+-- the words of a decision: 8, then 48 of segments, 32 of modules, the count of false headers, and 7 zeros
 module _ (d : Decision) where
   abbrev toSegments : List ℕ
   toSegments = headWords d ++ segmentsWords (d .plan .kernel)
@@ -106,17 +108,20 @@ module _ (d : Decision) where
   unfolding headWords
   length-segments = length-append (headWords d) (segmentsWords (d .plan .kernel)) ∙ omega (arith, length-joined (segmentWords (d .plan .kernel)) 3 (λ i. refl) maxSegments)
 
+  abbrev behind : List ℕ
+  behind = d .plan .kernel .«false_headers» ∷ zeros 7
+
   length-modules : length toModules ≡ 88
   length-modules = length-append toSegments (modulesWords (d .plan .modules)) ∙ omega (arith, length-segments, length-joined (moduleWords (d .plan .modules)) 2 (λ i. refl) maxModules)
 
   length-words : length (planWords d) ≡ 96
   unfolding planWords
-  length-words = length-append toModules (zeros 8) ∙ omega (arith, length-modules)
+  length-words = length-append toModules behind ∙ omega (arith, length-modules)
 
   segment-word : (i j k : ℕ) → i < 16 → j < 3 → k ≡ 8 + (3 * i + j) → getD (planWords d) k 0 ≡ getD (segmentWords (d .plan .kernel) i) j 0
   unfolding planWords headWords
   segment-word i j k u v e =
-      List·getD-append toModules (zeros 8) 0 k (omega (arith, length-modules))
+      List·getD-append toModules behind 0 k (omega (arith, length-modules))
       ∙ List·getD-append toSegments (modulesWords (d .plan .modules)) 0 k (omega (arith, length-segments))
       ∙ ap (λ (a : ℕ). getD toSegments a 0) e
       ∙ getD-append-add (headWords d) (segmentsWords (d .plan .kernel)) (3 * i + j) 0
@@ -125,17 +130,19 @@ module _ (d : Decision) where
   module-word : (i j k : ℕ) → i < 16 → j < 2 → k ≡ 56 + (2 * i + j) → getD (planWords d) k 0 ≡ getD (moduleWords (d .plan .modules) i) j 0
   unfolding planWords
   module-word i j k u v e =
-      List·getD-append toModules (zeros 8) 0 k (omega (arith, length-modules))
+      List·getD-append toModules behind 0 k (omega (arith, length-modules))
       ∙ ap (λ (a : ℕ). getD toModules a 0) (omega (arith, length-segments))
       ∙ getD-append-add toSegments (modulesWords (d .plan .modules)) (2 * i + j) 0
       ∙ joined-at (moduleWords (d .plan .modules)) 2 (λ a. refl) maxModules i j u v
 
-  last-word : (k : ℕ) → 88 ≤ k → getD (planWords d) k 0 ≡ 0
+  behind-word : (j k : ℕ) → k ≡ 88 + j → getD (planWords d) k 0 ≡ getD behind j 0
   unfolding planWords
-  last-word k u =
-      ap (λ (a : ℕ). getD (toModules ++ zeros 8) a 0) (omega (arith, length-modules))
-      ∙ getD-append-add toModules (zeros 8) (k - 88) 0
-      ∙ replicate-at 8 (k - 88) 0
+  behind-word j k e =
+      ap (λ (a : ℕ). getD (toModules ++ behind) a 0) (omega (arith, length-modules))
+      ∙ getD-append-add toModules behind j 0
+
+  last-word : (k : ℕ) → 89 ≤ k → getD (planWords d) k 0 ≡ 0
+  last-word k u = behind-word (suc (k - 89)) k (omega arith) ∙ replicate-at 7 (k - 89) 0
 
   with-plan : (q : Plan) → d .plan ≡ q → planWords d ≡ planWords (record { answer = d .answer; plan = q })
   with-plan q e = ap (λ (r : Plan). planWords (record { answer = d .answer; plan = r })) e
@@ -144,6 +151,7 @@ module _ (d : Decision) where
 -- modules that it has end above 0
 record GoodPlan (q : Plan) (n : ℕ) : Type 0 where
   header : q .kernel .header .0 < 2 ^ 32
+  false-headers : q .kernel .«false_headers» < 2 ^ 32
   entry : q .kernel .entry .0 < 2 ^ 32
   eax : q .eax < 2 ^ 32
   ebx : q .ebx < 2 ^ 32
@@ -180,6 +188,7 @@ module _ (x : Lent) (h : Loads x) where
       let m = spans-low x h in
       record {
         header = omega (arith, k .early);
+        false-headers = omega (arith, k .counted, false-most (imageIn x));
         entry = omega (arith, k .entered .3, segment-low (k .entered .0));
         eax = omega arith;
         ebx = omega arith;
@@ -218,7 +227,8 @@ module _ (a : Answer) (q : Plan) (n : ℕ) (e : numberOf a ≡ 0) (f : itemOf a 
         extent-ends = λ i u. segment-word d i 2 (8 + 3 * i + 2) u (omega arith) (omega arith) ∙ omega (arith, g .segments i);
         module-starts = λ i u. module-word d i 0 (56 + 2 * i) u (omega arith) (omega arith) ∙ omega (arith, g .modules i);
         module-ends = λ i u. module-word d i 1 (56 + 2 * i + 1) u (omega arith) (omega arith) ∙ omega (arith, g .modules i);
-        rest = λ k u. last-word d k (omega arith);
+        false-headers = behind-word d 0 88 refl;
+        rest = last-word d;
       }
 
   low-of : Low (planWords (record { answer = a; plan = q }))
@@ -230,7 +240,7 @@ module _ (a : Answer) (q : Plan) (n : ℕ) (e : numberOf a ≡ 0) (f : itemOf a 
       (more (omega arith) (more (omega arith) (more (omega arith) (more (omega arith) (more (g .eax) (more (g .ebx) (more (omega arith) (more (omega arith) none))))))))
       (low-joined (segmentWords (q .kernel)) (λ i. more (omega arith) (more (omega arith) (more (omega arith) none))) maxSegments))
       (low-joined (moduleWords (q .modules)) (λ i. more (omega arith) (more (omega arith) none)) maxModules))
-      (low-zeros 8)
+      (more (g .false-headers) (low-zeros 7))
 
 -- and its lines: the report leaves out the places past the last segment and the last module
 module _ (q : Plan) (n : ℕ) (p : List ℕ) (g : GoodPlan q n) (w : Exported q p) where
@@ -258,12 +268,16 @@ refused : (a : Answer) → planWords (record { answer = a; plan = noPlan }) ≡ 
 unfolding planWords headWords noPlan joined
 refused a = refl
 
--- a number is at most 20, and an item is the index of one of 16 modules at most
+-- an item is the index of one of 16 modules, or how many false headers there are: at most 2,046
 item-low : (x : Lent) → itemOf (decisionOf x .answer) < 2 ^ 32
 item-low x =
     ⊎-elim
     (λ (t : eqb (numberOf (decisionOf x .answer)) 16 ≡ true). let r = room-item x (eqb-true _ 16 t) in omega (arith, r .2 .count))
-    (λ (t : eqb (numberOf (decisionOf x .answer)) 16 ≡ false). omega (arith, item-none (decisionOf x .answer) (eqb-false _ 16 t)))
+    (λ (t : eqb (numberOf (decisionOf x .answer)) 16 ≡ false).
+    ⊎-elim
+    (λ (u : eqb (numberOf (decisionOf x .answer)) 6 ≡ true). omega (arith, header-item x (eqb-true _ 6 u) .0, false-most (imageIn x)))
+    (λ (u : eqb (numberOf (decisionOf x .answer)) 6 ≡ false). omega (arith, item-none (decisionOf x .answer) (eqb-false _ 6 u) (eqb-false _ 16 t)))
+    (true-or-false (eqb (numberOf (decisionOf x .answer)) 6)))
     (true-or-false (eqb (numberOf (decisionOf x .answer)) 16))
 
 module _ (x : Lent) (e : numberOf (decisionOf x .answer) ≡ 0) where
@@ -271,7 +285,7 @@ module _ (x : Lent) (e : numberOf (decisionOf x .answer) ≡ 0) where
   good = rw (load-plan x e) (good-plan x (loads x (number-load x e)))
 
   load-item : itemOf (decisionOf x .answer) ≡ 0
-  load-item = item-none (decisionOf x .answer) (λ n. omega arith)
+  load-item = item-none (decisionOf x .answer) (λ n. omega arith) (λ n. omega arith)
 
   load-words : Exported (decisionOf x .plan) (planWords (decisionOf x))
   load-words = words-of (decisionOf x .answer) (decisionOf x .plan) (moduleCount (x .submission)) e load-item good

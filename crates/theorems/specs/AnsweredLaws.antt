@@ -36,6 +36,7 @@ use Rattle.header.specs.declared.Search.{Search}
 use Rattle.header.specs.declared.Search.the-variants.{At, Nothing}
 use Rattle.header.specs.Header.{header}
 use Rattle.header.specs.HeaderAt.{HeaderAt}
+use Rattle.header.specs.FalseHeader.{falseHeaders}
 use Rattle.header.specs.HeaderLaws.{header-none, none-header, lowest-header}
 use Rattle.elf.specs.Elf.{isElf, elfHeader}
 use Rattle.elf.specs.Segments.{elfKernel}
@@ -43,8 +44,8 @@ use Rattle.elf.specs.Checks.{wellFormed, badNo, elfChecks}
 use Rattle.elf.specs.ElfLaws.{elf-good-is, headers-good-is, segments-apart-is}
 use Rattle.kernel.specs.declared.Kernel.{Kernel}
 use Rattle.kernel.specs.Checks.{entryChecks, extentsOverlap}
-use Rattle.image.specs.Load.{flagsAt, onPages, fieldsAt, loadOffset, loadLength, loadEnd, fullHeader}
-use Rattle.image.specs.Judged.{noHeader, offsetOf, unknownRequest, undefinedBits, noAddresses, unknownKind, cutOff, beforeImage, pastImage, bssBelow, headerOffset, headerFlags, isAddressed, headerChecks, loadChecks, fieldChecks, kindChecks, imageChecks}
+use Rattle.image.specs.Load.{flagsAt, fieldsAt, loadOffset, loadLength, loadEnd, fullHeader}
+use Rattle.image.specs.Judged.{noHeader, offsetOf, unknownRequest, undefinedBits, noAddresses, unknownKind, cutOff, beforeImage, pastImage, bssBelow, headerOffset, headerFlags, announcement, isAddressed, headerChecks, loadChecks, fieldChecks, kindChecks, imageChecks}
 use Rattle.image.specs.JudgedLaws.{fields-entry-is, elf-entry-is}
 use Rattle.memory_map.specs.Map.{badMap, mapChecks}
 use Rattle.memory_map.specs.PairsLaws.{map-good-is}
@@ -103,6 +104,10 @@ of-search : (s : List ℕ) (r : Search) → header s ≡ r → (noHeader (header
 of-search s Nothing e = (λ t. header-none s e, λ n. rw e refl)
 of-search s (At o) e = (λ t. absurd (false≢true (rw e at t)), λ n. rw (none-header s n) refl)
 
+found-nothing : (r : Search) → noHeader r ≡ true → r ≡ Nothing
+found-nothing Nothing t = refl
+found-nothing (At o) t = absurd (false≢true t)
+
 operator-is : (line : List ℕ) → ((ltb maxLine (length line) || hasZero line) ≡ false) ↔ ((length line ≤ maxLine) × NoZero line)
 operator-is line =
     let p = ltb maxLine (length line) in (
@@ -140,20 +145,19 @@ module _ (x : Lent) where
   -- where it is clear the table of an ELF image does
   module _ (a : isAddressed (imageIn x) ≡ false) where
     abbrev elfIn : Kernel
-    elfIn = elfKernel (imageIn x) (headerOffset (imageIn x)) (onPages (headerFlags (imageIn x)))
+    elfIn = elfKernel (imageIn x) (announcement (imageIn x))
 
     at-elf : OfElf (imageIn x) (holdsIn x)
     unfolding appliesFor onlyIf checks lentChecks submissionChecks operatorChecks windowChecks mapChecks headerChecks loadChecks fieldChecks kindChecks entryChecks elfChecks imageChecks kernelChecks roomChecks
     at-elf =
         let image = imageIn x in
-        let o = headerOffset image in
-        let pages = onPages (headerFlags image) in
+        let announced = announcement image in
         let none = not-to-true (isAddressed image) a in
         let P : ℕ → Type 0 = λ k. holdsIn x k ≡ false in
         record {
-          c18 = rw none (false-is (not (wellFormed (elfHeader image) (length image)) || eqb (elfIn .count) 0) (elf-good-is image o pages));
+          c18 = rw none (false-is (not (wellFormed (elfHeader image) (length image)) || eqb (elfIn .count) 0) (elf-good-is image announced));
           c19 = rw none (false-is (any (badNo image) (elfHeader image .«e_phnum»)) (headers-good-is image));
-          c20 = rw none (false-is (extentsOverlap elfIn) (segments-apart-is image o pages));
+          c20 = rw none (false-is (extentsOverlap elfIn) (segments-apart-is image announced));
           c14 = elf-entry-is image a;
           no-fields = from-on P 9 13 (rw a) (from-on P 10 13 (rw a) (from-on P 11 13 refl (from-on P 12 13 (rw a) (from-on P 13 13 (rw a) (λ k l m. absurd (omega arith))))));
         }
@@ -251,6 +255,13 @@ module _ (x : Lent) where
         ltb-true _ _ (f .0),
         submission-good-is (x .submission) .0 (not-false _ (f .1 2 (rw numbers-are early))),
       )
+
+  -- 6 has the count of false headers for its item, and no header was found
+  pub header-item : numberOf (decisionOf x .answer) ≡ 6 → (itemOf (decisionOf x .answer) ≡ falseHeaders (imageIn x)) × (header (imageIn x) ≡ Nothing)
+  unfolding placeIn answerFor appliesFor onlyIf checks lentChecks submissionChecks operatorChecks windowChecks mapChecks headerChecks loadChecks fieldChecks kindChecks entryChecks elfChecks imageChecks kernelChecks roomChecks layoutOf
+  header-item e =
+      let f = number-first (checks x) 6 numbered (omega arith) (ap numberOf (sym decided-answer) ∙ e) in
+      (ap itemOf (decided-answer ∙ first-answer (checks x) 6 numbered (f .0) (f .1)), found-nothing (header (imageIn x)) (f .0))
 
   -- a number that is not in the order of checks has no condition
   other-none : (k : ℕ) → length checkOrder ≤ placeIn checkOrder k → holdsIn x k ≡ false

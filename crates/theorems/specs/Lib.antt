@@ -2,6 +2,7 @@
 pub mod Promises
 pub mod SizeLaws
 pub mod AnsweredLaws
+pub mod CountedLaws
 pub mod WrittenLaws
 pub mod ReadBackLaws
 pub mod PlacingLaws

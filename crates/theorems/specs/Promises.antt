@@ -2,6 +2,7 @@
 --     Conditions, OfHeader, OfFields, OfLoad, OfElf
 --                                     the condition of each refusal
 --     Answered                        1. the first condition that holds gives the number; a refusal changes nothing
+--     Counted                         how many false headers are told, in a load and in 6
 --     OnMemory                        where none before 15 holds: the kernel, 15, and the places of the modules and of the information block
 --     Placing                         3. each at its lowest place, and "no room" exactly where there is none
 --     Planned                         the plan of a load
@@ -17,6 +18,7 @@ use mathlib.Core.List.{List, [], _∷_, _++_}
 use mathlib.Core.Logic.{_↔_, _⊎_}
 use Prim.Native.Nat.{ℕ, _+_, _*_, _-_, _/_, _%_, _^_, _≤_, _<_, min}
 use lib.ListN.{length, getD, take, drop}
+use Rattle.laws.specs.HowMany.{HowMany}
 use Rattle.number.specs.Number.{numberAt}
 use Rattle.address.specs.Span.{noSpan, spanNo, Holds}
 use Rattle.address.specs.declared.Span.{Span}
@@ -26,7 +28,7 @@ use Rattle.answer.specs.declared.Answer.the-variants.{NoRoomForModule, NoRoomFo
 use Rattle.submission.specs.Format.{moduleCount, dataLength, stringLength, dataStart, imageBytes, stringBytes}
 use Rattle.submission.specs.GoodSubmission.{NoZero, Marked, GoodSubmission}
 use Rattle.command_line.specs.LineInForce.{lineInForce}
-use Rattle.header.specs.HeaderAt.{HeaderAt}
+use Rattle.header.specs.HeaderAt.{HeaderAt, FalseHeaderAt}
 use Rattle.elf.specs.Elf.{elfHeader, programHeaderNo}
 use Rattle.elf.specs.GoodElf.{SegmentAt, GoodElf, GoodHeader, Takes}
 use Rattle.elf.specs.Tabled.{Tabled}
@@ -102,11 +104,17 @@ pub record Answered (d : Decision) (w v : List ℕ) (c : ℕ → Bool) : Type 0 
   pub other : (k : ℕ) → length checkOrder ≤ placeIn checkOrder k → c k ≡ false
   -- 11 is such a number: no load with load_end_addr 0 is empty
   pub no-eleven : numberOf (d .answer) ≡ 11 → ⊥
-  -- every answer but 16 has the item 0
-  pub item : (numberOf (d .answer) ≡ 16 → ⊥) → itemOf (d .answer) ≡ 0
+  -- every answer but 6 and 16 has the item 0
+  pub item : (numberOf (d .answer) ≡ 6 → ⊥) → (numberOf (d .answer) ≡ 16 → ⊥) → itemOf (d .answer) ≡ 0
   -- a refusal has a plan of zeros, and leaves the window as it was
   pub plan : (numberOf (d .answer) ≡ 0 → ⊥) → d .plan ≡ noPlan
   pub window : (numberOf (d .answer) ≡ 0 → ⊥) → v ≡ w
+
+-- so many numbers k have a false header at 4k: a load's plan counts those below its header, the item of 6 those in the first
+-- 8,192 bytes; Announced says that the header is the lowest
+pub record Counted (image : List ℕ) (d : Decision) : Type 0 where
+  pub load : numberOf (d .answer) ≡ 0 → HowMany (λ k. FalseHeaderAt image (4 * k)) (d .plan .kernel .header .0 / 4) (d .plan .kernel .«false_headers»)
+  pub none : numberOf (d .answer) ≡ 6 → HowMany (λ k. FalseHeaderAt image (4 * k)) 2048 (itemOf (d .answer))
 
 -- the command line in force, and the length of the information block: structure, entries, map, name, command line, strings
 abbrev pub lineOf : Lent → List ℕ
@@ -232,6 +240,7 @@ pub record Promised (x : Lent) (w : List ℕ) (d : Decision) (v : List ℕ) : Ty
   pub holds : ℕ → Bool
   pub conditions : Conditions x holds
   pub answered : Answered d w v holds
+  pub counted : Counted (imageBytes (x .submission)) d
   pub memory : ((k : ℕ) → Before k 15 → holds k ≡ false) → OnMemory x d holds
   pub written : numberOf (d .answer) ≡ 0 → Written x (d .plan) w v
   pub readBack : numberOf (d .answer) ≡ 0 → ReadBack x (d .plan) v

@@ -11,6 +11,7 @@ use Rattle.loader.specs.Memory.{memoryAfter}
 use Rattle.loader.specs.LoadLaws.{loads}
 use Rattle.theorems.specs.Promises.{Promised}
 use Rattle.theorems.specs.AnsweredLaws.{holdsIn, conditions, answered, number-load, load-plan}
+use Rattle.theorems.specs.CountedLaws.{counted}
 use Rattle.theorems.specs.WrittenLaws.{written-bytes}
 use Rattle.theorems.specs.ReadBackLaws.{read-back}
 use Rattle.theorems.specs.PlacingLaws.{on-memory}
@@ -21,6 +22,7 @@ promised x w n =
       holds = holdsIn x;
       conditions = conditions x;
       answered = answered x w;
+      counted = counted x;
       memory = on-memory x;
       written = λ e. rw (load-plan x e) (written-bytes x (loads x (number-load x e)) w n (number-load x e));
       readBack = λ e. rw (load-plan x e) (read-back x (loads x (number-load x e)) w n (number-load x e));

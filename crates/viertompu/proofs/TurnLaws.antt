@@ -1,6 +1,6 @@
 -- One turn of each loop, and the parts of a plan one behind the other.
 --     segment-written, module-written    the words of a segment more, of a module more
---     plan-written                       head, segments and modules over zeros
+--     plan-written                       head, segments and modules over zeros, and the count of false headers
 -- Assumes nothing.
 use mathlib.Core.Path.{_≡_, refl, ap, _∙_}
 use mathlib.Core.List.{List, [], _∷_, _++_, append-assoc}
@@ -8,6 +8,7 @@ use Prim.Native.Nat.{ℕ, suc, _+_, _*_}
 use native.Mathlib.Nat.{zero-add}
 use native.Mathlib.Omega.{arith}
 use lib.ListN.{length, set, length-append}
+use lib.Seq.{set-at}
 use Rattle.buffer.specs.Patched.{patched, zeros}
 use Rattle.buffer.specs.PatchedLaws.{patched-append, patched-split}
 use Rattle.address.specs.declared.Span.{Span}
@@ -55,13 +56,23 @@ parts-written h s m t u v a b c p q r =
     let f : v ≡ patched (zeros planSize) 0 ((h ++ s) ++ m) = rw (r, e, ← l) (rw zero-add at (patched-append (zeros planSize) 0 (h ++ s) m)) in
     f ∙ patched-split (zeros planSize) 0 ((h ++ s) ++ m) (omega arith) ∙ rw (zero-add, n, append-assoc, append-assoc) refl
 
+-- and a number behind them
+behind-written : (h s m v : List ℕ) (n : ℕ) → length h ≡ firstSegment → length s ≡ wordsPerSegment * maxSegments → length m ≡ wordsPerModule * maxModules
+    → v ≡ h ++ s ++ m ++ zeros 8
+    → set v 88 n ≡ h ++ s ++ m ++ (n ∷ zeros 7)
+behind-written h s m v n a b c e =
+    let l : length (h ++ s ++ m) ≡ 88 = simp length-append (omega arith) in
+    rw e (set-at (h ++ s ++ m) 0 (zeros 7) n 88 l)
+
 pub plan-written : (d : Decision) (t u v : List ℕ)
     → t ≡ patched (zeros planSize) 0 (headWords d)
     → u ≡ patched t firstSegment (segmentsWords (d .plan .kernel))
     → v ≡ patched u firstModule (modulesWords (d .plan .modules))
-    → v ≡ planWords d
+    → set v 88 (d .plan .kernel .«false_headers») ≡ planWords d
 unfolding headWords planWords
-plan-written d t u v =
-    parts-written (headWords d) (segmentsWords (d .plan .kernel)) (modulesWords (d .plan .modules)) t u v refl
-    (length-joined (segmentWords (d .plan .kernel)) wordsPerSegment (λ j. refl) maxSegments)
-    (length-joined (moduleWords (d .plan .modules)) wordsPerModule (λ j. refl) maxModules)
+plan-written d t u v p q r =
+    let s = segmentsWords (d .plan .kernel) in
+    let m = modulesWords (d .plan .modules) in
+    let a = length-joined (segmentWords (d .plan .kernel)) wordsPerSegment (λ j. refl) maxSegments in
+    let b = length-joined (moduleWords (d .plan .modules)) wordsPerModule (λ j. refl) maxModules in
+    behind-written (headWords d) s m v (d .plan .kernel .«false_headers») refl a b (parts-written (headWords d) s m t u v refl a b p q r)

@@ -43,6 +43,9 @@ pub const FIRST_MODULE: usize = 56;
 
 pub const WORDS_PER_MODULE: usize = 2;
 
+// How many false headers stand before the header.
+pub const FALSE_HEADERS: usize = 88;
+
 // The words of 32 bits are the numbers below this.
 const WORD_RANGE: u64 = 0x100000000;
 
@@ -77,6 +80,7 @@ pub(crate) fn write_plan(plan: &mut [u32; WORDS], decision: Decision)
     write_segments(plan, of_load.kernel);
     let modules = of_load.modules;
     write_modules(plan, modules);
+    plan[FALSE_HEADERS] = of_load.kernel.false_headers;
 }
 
 // Writes the words before the segments.

@@ -6,7 +6,7 @@ use evidence::input::draft::{overlay, submission, Header, Module};
 use evidence::input::elf::{Elf, ProgramHeader};
 use evidence::input::pair::{map_bytes, Pair};
 use evidence::input::review_board;
-use evidence::loaders::model::{header_offset, read};
+use evidence::loaders::model::{false_headers, header_offset, read};
 use evidence::loaders::{run, second};
 use evidence::rules::limits::{ADDRESS_FIELDS, HEADER_MAGIC, RAM};
 use evidence::rules::offsets::elf_header::*;
@@ -180,6 +180,23 @@ fn the_search_knows_both_sums() {
     assert_eq!(found(0xE452_4FFF, 0xFFFF_FFFF), Some(0));
     assert_eq!(found(0xFFFF_FFFF, 0xE452_4FFF), Some(0));
     assert_eq!(found(0xFFFF_FFFF, 0xFFFF_FFFF), None);
+}
+
+/// A false header at each offset of an image that is longer than what is searched, alone and with a
+/// header at 4,096.
+#[test]
+fn which_false_headers_are_counted() {
+    let parts = [Header { checksum_off_by: 1, ..Header::default() }, Header::default()];
+    let [decoy, header] = parts.map(|header| header.bytes()[..12].to_vec());
+    for at in 0..9000 {
+        let mut image = vec![0; 9000];
+        overlay(&mut image, at, &decoy);
+        let alone = false_headers(&image);
+        overlay(&mut image, 4096, &header);
+        let is_multiple = at % 4 == 0;
+        let counts = [is_multiple && at <= 8180, is_multiple && at < 4096].map(u64::from);
+        assert_eq!([alone, false_headers(&image)], counts, "at {at}");
+    }
 }
 
 #[test]

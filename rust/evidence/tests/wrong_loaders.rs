@@ -7,13 +7,13 @@ use evidence::input::case::Case;
 use evidence::input::draft::pattern;
 use evidence::input::pair::{map_bytes, Pair};
 use evidence::input::{generate, review_board};
-use evidence::loaders::{run, second, Loader, Outcome};
+use evidence::loaders::{model, run, second, Loader, Outcome};
 use evidence::rules::bytes::{put_u32, u32_at};
-use evidence::rules::limits::{FLOOR, RAM};
+use evidence::rules::limits::{FLOOR, RAM, SEARCH_LIMIT};
 use evidence::rules::offsets::structure;
 use evidence::rules::words;
 use std::ops::Range;
-use viertompu::{read_words, Refusal, Segment, Words};
+use viertompu::{read_words, Plan, Refusal, Segment, Words};
 
 const CASES: u64 = 2000;
 
@@ -127,6 +127,36 @@ fn gives_eleven(case: &Case, window: &mut [u8]) -> Words {
     words
 }
 
+/// Loads, and tells another count of false headers.
+fn miscounts(case: &Case, window: &mut [u8], count: fn(&Case, &Plan) -> u32) -> Words {
+    let decision = read_words(&second::load(case, window)).map(|plan| {
+        let false_headers = count(case, &plan);
+        Plan { false_headers, ..plan }
+    });
+    words(&decision)
+}
+
+fn counts_the_header_in(case: &Case, window: &mut [u8]) -> Words {
+    miscounts(case, window, |_, plan| plan.false_headers + 1)
+}
+
+fn counts_on_behind_the_header(case: &Case, window: &mut [u8]) -> Words {
+    miscounts(case, window, |case, _| {
+        let reading = model::read(case).unwrap_or_else(|_| panic!("a load is read"));
+        let is_false = |&at: &u64| model::false_header_at(reading.submission.image, at);
+        (0..SEARCH_LIMIT as u64).filter(is_false).count() as u32
+    })
+}
+
+/// Gives 6 no item.
+fn counts_in_loads_alone(case: &Case, window: &mut [u8]) -> Words {
+    let mut words = second::load(case, window);
+    if (Refusal::NoHeader { false_headers: words[1] }).number() == words[0] {
+        words[1] = 0;
+    }
+    words
+}
+
 /// Does a judge find fault with what the loader leaves behind in some case?
 fn caught(loader: Loader, is_wrong: fn(&Case, &Outcome) -> bool) -> bool {
     let mut cases = (0..CASES).map(|index| generate::case(1, index));
@@ -149,7 +179,7 @@ fn by_address(case: &Case, outcome: &Outcome) -> bool {
 }
 
 /// Their loads and refusals show that they are wrong.
-const WRONG_BY_THEMSELVES: [(&str, Loader); 10] = [
+const WRONG_BY_THEMSELVES: [(&str, Loader); 12] = [
     ("always_the_same_plan", always_the_same_plan),
     ("never_writes", never_writes),
     ("copies_the_first_module_alone", copies_the_first_module_alone),
@@ -160,11 +190,16 @@ const WRONG_BY_THEMSELVES: [(&str, Loader); 10] = [
     ("invents_mods_count", invents_mods_count),
     ("writes_before_it_refuses", writes_before_it_refuses),
     ("gives_eleven", gives_eleven),
+    ("counts_the_header_in", counts_the_header_in),
+    ("counts_on_behind_the_header", counts_on_behind_the_header),
 ];
 
 /// Only another reading of the rules shows that they are wrong.
-const WRONG_BESIDE_ANOTHER: [(&str, Loader); 2] =
-    [("refuses_everything", refuses_everything), ("invents_mem_upper", invents_mem_upper)];
+const WRONG_BESIDE_ANOTHER: [(&str, Loader); 3] = [
+    ("refuses_everything", refuses_everything),
+    ("invents_mem_upper", invents_mem_upper),
+    ("counts_in_loads_alone", counts_in_loads_alone),
+];
 
 #[test]
 fn comparison_catches_wrong_loaders() {

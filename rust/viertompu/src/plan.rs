@@ -25,6 +25,8 @@ pub struct Segment {
 pub struct Plan {
     /// the header's offset in the image
     pub header_offset: u32,
+    /// how many false headers stand before the header
+    pub false_headers: u32,
     /// the address at which the kernel is entered
     pub entry: u32,
     /// the number handed over in EAX

@@ -51,7 +51,7 @@ refusals! {
     3 BadOperatorLine "the operator's line is over 255 bytes or holds a zero byte",
     4 WindowPastTop "the window's first address plus its length is above the top",
     5 BadMemoryMap "the map is empty, over 4,096 bytes, has over 32 pairs, or a pair has a size under 20 or runs past the map's end",
-    6 NoHeader "the image has no header",
+    6 NoHeader { false_headers } "the image has no header; the item is how many false headers it has",
     7 UnknownRequest "one of the header's flag bits 2 to 15 is set",
     25 UndefinedBits "one of the header's flag bits 17 to 31 is set",
     8 NoAddressFields "the header's flag bit 16 is clear, and the image does not begin with the ELF mark",

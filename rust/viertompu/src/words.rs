@@ -7,7 +7,7 @@ use core::array::from_fn;
 ///
 /// 0 number, 1 item, 2 header offset, 3 entry, 4 EAX, 5 EBX, 6 and 7 the information block's
 /// start and end, 8 to 55 sixteen segments (start, load end, extent end), 56 to 87 sixteen modules
-/// (start, end), 88 to 95 zero.
+/// (start, end), 88 how many false headers stand before the header, 89 to 95 zero.
 pub const WORDS: usize = 96;
 /// The words of a decision.
 pub type Words = [u32; WORDS];
@@ -16,6 +16,7 @@ const FIRST_SEGMENT: usize = 8;
 const WORDS_PER_SEGMENT: usize = 3;
 const FIRST_MODULE: usize = 56;
 const WORDS_PER_MODULE: usize = 2;
+const FALSE_HEADERS: usize = 88;
 
 /// What the words of a decision say.
 ///
@@ -37,6 +38,7 @@ pub fn read_words(words: &Words) -> Result<Plan, Refusal> {
     };
     Ok(Plan {
         header_offset,
+        false_headers: words[FALSE_HEADERS],
         entry,
         eax,
         ebx,

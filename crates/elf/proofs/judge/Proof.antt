@@ -35,7 +35,7 @@ formed c = told (c .before .well-formed .ensures) (not-false _ (c .if1 .left))
 few : (c : tie.After-read-table) → c .read-table .result .kernel .count ≤ maxSegments
 few c =
     let header = c .before .before .before .read-header in
-    rw (c .read-table .ensures) (few-segments _ _ _ (header .result) (header .ensures) (formed-is _ _ .0 (formed (c .before)) .few))
+    rw (c .read-table .ensures) (few-segments _ _ (header .result) (header .ensures) (formed-is _ _ .0 (formed (c .before)) .few))
 
 -- where the header is well formed, the checks on the table are left
 left : (image : List ℕ) (h : ElfHeader) (k : Kernel) (t : Table) (a : Answer) → HeaderRead image h → wellFormed h (length image) ≡ true

@@ -4,7 +4,8 @@ use mathlib.Core.Path.{sym, _∙_}
 use native.Mathlib.Omega.{arith}
 use borrow.Author.Needs.{needs}
 use lib.Seq.{length-take-le}
-use Rattle.header.specs.WalkLaws.{whole-image, first-part}
+use Rattle.header.specs.Header.{searchLimit}
+use Rattle.header.specs.FalseHeaderLaws.{searched-part}
 use Rattle.header.proofs.find_header.Statement.{statement}
 use Rattle.header.proofs.find_header.Tie as tie
 
@@ -15,13 +16,13 @@ slice-aggregate-first-header : tie.Need-slice-aggregate-first-header
 slice-aggregate-first-header c = sym (length-take-le _ (c .before .before .before .args .image .now) (omega arith))
 
 first-header-requires-2 : tie.Need-first-header-requires-2
-first-header-requires-2 c κs = search needs
+first-header-requires-2 c κs = omega (arith, length-take-le searchLimit (c .before .before .before .args .image .now) (omega arith))
 
 returns : tie.Need-returns
-returns c = c .first-header .ensures ∙ whole-image (c .before .before .before .args .image .now) (omega arith)
+returns c = search needs
 
 returns-2 : tie.Need-returns-2
-returns-2 c = c .first-header2 .ensures ∙ first-part (c .before .before .before .before .args .image .now)
+returns-2 c = c .first-header2 .ensures ∙ searched-part (c .before .before .before .before .args .image .now)
 
 pub find-header-spec : {M : Type 1} → statement M
 find-header-spec =

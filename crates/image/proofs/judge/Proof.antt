@@ -1,10 +1,19 @@
 -- `image::judge` meets its contract: where no header was found check 6 applies.
 -- Assumes nothing.
-use mathlib.Core.Path.{sym, _∙_}
+use mathlib.Core.Path.{_≡_, ap, sym, _∙_}
 use borrow.Author.Needs.{needs}
+use Rattle.header.specs.declared.Searched.{Searched}
 use Rattle.image.proofs.RefusalLaws.{no-header}
 use Rattle.image.proofs.judge.Statement.{statement}
 use Rattle.image.proofs.judge.Tie as tie
+
+-- the two parts of what the search answers
+module _ {r s : Searched} (e : r ≡ s) where
+  found-is : r .header ≡ s .header
+  found-is = ap (λ (t : Searched). t .header) e
+
+  passed-is : r .«false_headers» ≡ s .«false_headers»
+  passed-is = ap (λ (t : Searched). t .«false_headers») e
 
 find-header-requires : tie.Need-find-header-requires
 find-header-requires c κs = search needs
@@ -15,14 +24,18 @@ enum-told c = search needs
 refused-requires : tie.Need-refused-requires
 refused-requires c κs = search needs
 
-enum-known-at : tie.Need-enum-known-at
-enum-known-at c = search needs
+enum-known-found : tie.Need-enum-known-found
+enum-known-found c = search needs
 
 judge-header-requires : tie.Need-judge-header-requires
-judge-header-requires c κs = sym (c .before .before .before .find-header .ensures) ∙ c .before .at .given .1
+judge-header-requires c κs =
+    let known = c .before .before .before .find-header .ensures in
+    (sym (found-is known) ∙ c .before .found .given .1, passed-is known)
 
 returns : tie.Need-returns
-returns c = c .refused .ensures ∙ no-header _ (sym (c .before .before .before .find-header .ensures) ∙ c .before .enum-told .given .1)
+returns c =
+    let known = c .before .before .before .find-header .ensures in
+    c .refused .ensures ∙ no-header _ _ (sym (found-is known) ∙ c .before .enum-told .given .1) (passed-is known)
 
 returns-2 : tie.Need-returns-2
 returns-2 c = search needs
@@ -34,7 +47,7 @@ judge-spec =
     find-header-requires
     enum-told
     refused-requires
-    enum-known-at
+    enum-known-found
     judge-header-requires
     returns
     returns-2)

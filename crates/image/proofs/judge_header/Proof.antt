@@ -13,10 +13,10 @@ use Rattle.image.proofs.judge_header.Statement.{statement}
 use Rattle.image.proofs.judge_header.Tie as tie
 
 inside : (c : tie.Start) → (c .args .at .0 + shortHeader ≤ length (c .args .image .now)) × (c .args .at .0 + shortHeader ≤ searchLimit)
-inside c = let h = header-lowest (c .args .image .now) (c .args .at) (c .pre) .0 in (h .whole, h .early)
+inside c = let h = header-lowest (c .args .image .now) (c .args .at) (c .pre .0) .0 in (h .whole, h .early)
 
 found : (c : tie.After-read-u32) → FlagsFound (c .before .before .before .args .image .now) (c .before .before .before .args .at) (c .read-u32 .result)
-found c = record { found = c .before .before .before .pre; read = c .read-u32 .ensures }
+found c = record { found = c .before .before .before .pre .0; read = c .read-u32 .ensures }
 
 add-read-u32 : tie.Need-add-read-u32
 add-read-u32 c = omega (arith, inside (c .before .before))

@@ -3,12 +3,12 @@
 use mathlib.Core.Path.{_∙_}
 use borrow.Author.Needs.{needs}
 use Rattle.laws.specs.CheckLaws.{told}
-use Rattle.image.proofs.RefusalLaws.{FlagsFound, flags-are, by-elf, by-address}
+use Rattle.image.proofs.RefusalLaws.{FlagsFound, announced-is, by-elf, by-address}
 use Rattle.image.proofs.judge_kind.Statement.{statement}
 use Rattle.image.proofs.judge_kind.Tie as tie
 
 found : (c : tie.Start) → FlagsFound (c .args .image .now) (c .args .at) (c .args .flags)
-found c = record { found = c .pre .0; read = c .pre .1 }
+found c = record { found = c .pre .0; read = c .pre .2 }
 
 on-pages-requires : tie.Need-on-pages-requires
 on-pages-requires c κs = search needs
@@ -23,12 +23,14 @@ returns : tie.Need-returns
 returns c =
     let test = c .before in
     let pages = test .before .before in
-    c .judge .ensures ∙ rw (pages .on-pages .ensures) (by-elf (found (pages .before .before)) (told (test .before .no-addresses .ensures) (test .if1 .taken)))
+    let start = pages .before .before in
+    c .judge .ensures ∙ by-elf (found start) _ (announced-is (found start) _ _ (start .pre .1) (pages .on-pages .ensures)) (told (test .before .no-addresses .ensures) (test .if1 .taken))
 
 judge-fields-requires : tie.Need-judge-fields-requires
 judge-fields-requires c κs =
     let pages = c .before .before in
-    (pages .before .before .pre .0, rw (flags-are (found (pages .before .before))) (pages .on-pages .ensures))
+    let start = pages .before .before in
+    (start .pre .0, announced-is (found start) _ _ (start .pre .1) (pages .on-pages .ensures))
 
 returns-2 : tie.Need-returns-2
 returns-2 c =

@@ -24,7 +24,7 @@ kernel-for-requires : tie.Need-kernel-for-requires
 kernel-for-requires c κs = omega (arith, short (c .before), c .before .before .pre .0 .load)
 
 judge-entry-requires : tie.Need-judge-entry-requires
-judge-entry-requires c κs = rw (c .kernel-for .ensures) (one-few _ _ _ _ _)
+judge-entry-requires c κs = rw (c .kernel-for .ensures) (one-few _ _ _ _)
 
 returns : tie.Need-returns
 returns c =

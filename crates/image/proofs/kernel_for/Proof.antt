@@ -20,7 +20,9 @@ array-set-from-segments c = search needs
 
 returns : tie.Need-returns
 unfolding kernelFor kernelWith
-returns c = rw (c .before .no-segment .ensures, c .before .before .extent-end .ensures, c .before .before .before .load-end .ensures)
+returns c =
+    let zeros = c .before .before in
+    rw (zeros .no-segment .ensures, zeros .before .extent-end .ensures, zeros .before .before .load-end .ensures)
 
 pub kernel-for-spec : {M : Type 1} → statement M
 kernel-for-spec =

@@ -1,4 +1,4 @@
--- `viertompu::write_plan` meets its contract: head, segments and modules, one behind the other, over zeros.
+-- `viertompu::write_plan` meets its contract: head, segments and modules, one behind the other, over zeros, and the count behind them.
 -- Assumes nothing.
 use borrow.Author.Needs.{needs}
 use Rattle.viertompu.proofs.TurnLaws.{plan-written}
@@ -14,6 +14,9 @@ write-segments-requires c κs = search needs
 write-modules-requires : tie.Need-write-modules-requires
 write-modules-requires c κs = search needs
 
+element-write-plan : tie.Need-element-write-plan
+element-write-plan c = search needs
+
 returns : tie.Need-returns
 returns c =
     let after-write-segments = c .before .before .before in
@@ -23,4 +26,4 @@ returns c =
 
 pub write-plan-spec : {M : Type 1} → statement M
 write-plan-spec =
-    tie.close (tie.spec write-head-requires write-segments-requires write-modules-requires returns)
+    tie.close (tie.spec write-head-requires write-segments-requires write-modules-requires element-write-plan returns)

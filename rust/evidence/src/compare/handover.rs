@@ -31,6 +31,7 @@ pub fn check(case: &Case, plan: &Plan, outcome: &Outcome) -> Result<(), String> 
     let reading = model::read(case).map_err(|_| "loaded what is refused")?;
     let memory = Memory { first: u64::from(case.first), bytes: &outcome.window };
     let load = Load { case, reading, plan, memory };
+    load.header()?;
     load.kernel()?;
     load.modules()?;
     load.structure()?;
@@ -117,6 +118,13 @@ impl<'a> Load<'a> {
     /// The modules with their spans.
     fn placed_modules(&self) -> impl Iterator<Item = (&Module<'a>, &Span)> {
         self.reading.submission.modules.iter().zip(&self.plan.modules)
+    }
+
+    /// The plan names the header that the model finds, and as many false headers before it.
+    fn header(&self) -> Result<(), String> {
+        let told = [self.plan.header_offset, self.plan.false_headers].map(u64::from);
+        let kernel = &self.reading.kernel;
+        demand(told == [kernel.header_offset, kernel.false_headers], "header")
     }
 
     /// Each part of the kernel stands at its place in table order, and nothing else in the plan.

@@ -27,5 +27,6 @@ fn plan_numbers(plan: &Plan) -> Vec<u32> {
     numbers.extend([plan.block.start, plan.block.end]);
     numbers.extend(plan.segments.iter().flat_map(|s| [s.start, s.load_end, s.extent_end]));
     numbers.extend(plan.modules.iter().flat_map(|m| [m.start, m.end]));
+    numbers.push(plan.false_headers);
     numbers
 }

@@ -7,8 +7,7 @@ use crate::loaders::model::{Board, Reading};
 use crate::loaders::Outcome;
 use crate::rules::bytes::u32_at;
 use crate::rules::limits::{
-    ADDRESS_FIELDS, ELF_MARK, FLOOR, FULL_HEADER, HEADER_MAGIC, MAX_LINE, MAX_MEM_LOWER,
-    MAX_STRING, WORD,
+    ADDRESS_FIELDS, ELF_MARK, FLOOR, FULL_HEADER, MAX_LINE, MAX_MEM_LOWER, MAX_STRING, WORD,
 };
 use crate::rules::offsets::{header, structure};
 use viertompu::{Plan, Segment, Span};
@@ -69,7 +68,6 @@ impl Load<'_> {
             ("loaded with an operator's line of 1 byte", operator.len() == 1),
             ("loaded with an operator's line of 255 bytes", operator.len() == MAX_LINE),
             ("loaded with a module string of 127 bytes", self.longest_string()),
-            ("loaded with the header behind a false one", self.false_header_first()),
             ("loaded with the kernel below 1 MiB", kernel.segments.iter().any(|s| s.start < FLOOR)),
             ("loaded with page boundaries", kernel.pages),
             ("loaded with mem_lower 640", self.mem_lower() == MAX_MEM_LOWER),
@@ -90,13 +88,6 @@ impl Load<'_> {
     fn header_word(&self, offset: usize) -> u64 {
         let header = self.plan.header_offset as usize;
         u64::from(u32_at(self.reading.submission.image, header + offset))
-    }
-
-    /// Does the magic stand before the header, at any offset?
-    fn false_header_first(&self) -> bool {
-        let before = 0..self.plan.header_offset as usize;
-        let image = self.reading.submission.image;
-        before.into_iter().any(|at| image[at..].starts_with(&HEADER_MAGIC.to_le_bytes()))
     }
 
     fn mem_lower(&self) -> u64 {

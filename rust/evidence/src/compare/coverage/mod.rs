@@ -2,6 +2,7 @@
 
 mod board;
 mod elf;
+mod false_headers;
 mod flags;
 mod load;
 
@@ -47,6 +48,7 @@ impl Coverage {
             Err(refused) => {
                 self.record_rules(refused.refusal.number(), &refused.rules);
                 self.count(border_goals(case, refused.refusal));
+                self.count(false_headers::refusal_goals(case, refused.refusal));
                 self.count(flags::refusal_goals(case, refused.refusal));
                 self.count(elf::refusal_goals(case, &refused));
             }
@@ -69,6 +71,7 @@ impl Coverage {
         if let Ok(plan) = &read_words(&outcome.words) {
             self.count(Load { case, reading, plan, outcome }.goals());
             self.count(elf::load_goals(reading, plan));
+            self.count(false_headers::load_goals(reading, plan));
             *self.loads.entry(reading.submission.modules.len()).or_default() += 1;
         }
     }

@@ -188,9 +188,17 @@ fn header_last() -> BenchCase {
     kernel("an ELF image's header at 8,180", &image, 8180, &segments, [0x10_0020, 0x10_00B0])
 }
 
+/// A program header that is not loadable holds a false header, the last word of it in the next.
+fn false_header_in_table() -> BenchCase {
+    let case = e1_with(&[(DATA - 8, HEADER_MAGIC)]);
+    let plan = Plan { false_headers: 1, ..e1_plan() };
+    loads("a false header in an ELF image's table", case, plan)
+}
+
 /// Borders of the answers.
 pub fn borders() -> Vec<BenchCase> {
     let mut cases = flag_borders();
+    cases.push(false_header_in_table());
     cases.extend(shortest_images());
     cases.extend(mark_and_kind());
     cases.extend(table_borders());
@@ -240,7 +248,7 @@ fn shortest_images() -> Vec<BenchCase> {
     vec![
         refused("an ELF image of 51 bytes", inside(51), BadElf),
         refused("an ELF image of 52 bytes", inside(52), BadElf),
-        refused("an ELF image of 59 bytes", shortest(59), NoHeader),
+        refused("an ELF image of 59 bytes", shortest(59), NoHeader { false_headers: 0 }),
         loads("an ELF image of 60 bytes", shortest(60), Plan { header_offset: 48, ..plan })
             .holding(0, &pattern(0, 8))
             .holding(8, b"\x7FELF\x01\x01\x01\x00")

@@ -13,8 +13,8 @@ use crate::input::pair::Pair;
 use crate::input::review_board;
 use crate::input::rng::Rng;
 use crate::rules::limits::{
-    FLOOR, LOADER_NAME, MAX_LINE, MAX_MAP, MAX_MODULES, MAX_PAIRS, MAX_STRING, MIN_PAIR_SIZE,
-    MODULE_ENTRY, PAGE, PAGE_ALIGNED, SHORT_HEADER, STRUCTURE, WORD,
+    FLOOR, FULL_HEADER, LOADER_NAME, MAX_LINE, MAX_MAP, MAX_MODULES, MAX_PAIRS, MAX_STRING,
+    MIN_PAIR_SIZE, MODULE_ENTRY, PAGE, PAGE_ALIGNED, SHORT_HEADER, STRUCTURE, WORD,
 };
 use crate::rules::Item;
 use board::{Board, Needs};
@@ -219,13 +219,24 @@ fn filler(rng: &mut Rng, length: usize) -> Vec<u8> {
     rng.bytes(length)
 }
 
-/// Places before the header for a magic that does not count.
+/// Places for a magic with a wrong sum or off the multiples of 4: before the header, also in each
+/// other's bytes and in the header's, and behind it.
 fn decoys(rng: &mut Rng, header: usize) -> Vec<usize> {
-    if header < 2 * SHORT_HEADER || rng.one_in(2) {
+    if header < SHORT_HEADER || rng.one_in(2) {
         return Vec::new();
     }
-    let at = rng.below((header - SHORT_HEADER) as u64) as usize;
-    vec![rng.pick(&[0, at, at / 4 * 4])]
+    let at = rng.below(header as u64) as usize;
+    let word = at / 4 * 4;
+    match rng.below(8) {
+        0 => vec![0],
+        1 => vec![at],
+        2 => vec![word],
+        3 => vec![word / 8 * 4, word],
+        4 => vec![header - rng.pick(&[4, 8])],
+        5 => (word..header).step_by(4).collect(),
+        6 => vec![at, header + FULL_HEADER + 4 * rng.below(8) as usize],
+        _ => (0..rng.below(6)).map(|_| 4 * rng.below(header as u64 / 4) as usize).collect(),
+    }
 }
 
 #[cfg(test)]

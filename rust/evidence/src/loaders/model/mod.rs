@@ -10,7 +10,7 @@ mod memory_map;
 mod placing;
 mod submission;
 
-pub use kernel::{header_offset, Kernel, Segment};
+pub use kernel::{false_header_at, false_headers, header_offset, Kernel, Segment};
 pub use placing::Board;
 pub use submission::{Module, Submission};
 

@@ -17,6 +17,7 @@ const UNDEFINED_BITS: u32 = 0xFFFE_0000;
 /// What the header asks for, and what the image loads.
 pub struct Kernel<'a> {
     pub header_offset: ImageOffset,
+    pub false_headers: u32,
     pub pages: bool,
     pub segments: Vec<Segment<'a>>,
     pub entry: u32,
@@ -24,7 +25,7 @@ pub struct Kernel<'a> {
 
 impl<'a> Kernel<'a> {
     pub fn read(image: &'a [u8]) -> Result<Self, Refusal> {
-        let header_offset = find_header(image).ok_or(Refusal::NoHeader)?;
+        let (header_offset, false_headers) = find_header(image)?;
         let flags = u32_at(image, header_offset.0 as usize + header::FLAGS);
         if flags & UNKNOWN_REQUESTS != 0 {
             return Err(Refusal::UnknownRequest);
@@ -38,22 +39,33 @@ impl<'a> Kernel<'a> {
         if !segments.iter().any(loads) {
             return Err(Refusal::EntryOutsideLoad);
         }
-        Ok(Kernel { header_offset, pages: flags & PAGE_ALIGNED != 0, segments, entry })
+        let pages = flags & PAGE_ALIGNED != 0;
+        Ok(Kernel { header_offset, false_headers, pages, segments, entry })
     }
 }
 
-/// The lowest offset of a header: magic, flags and checksum give 0 modulo 2^32.
-fn find_header(image: &[u8]) -> Option<ImageOffset> {
-    let searched = &image[..image.len().min(SEARCH_LIMIT)];
-    let is_header = |at: &usize| {
-        let magic = u32_at(searched, *at);
-        let flags = u32_at(searched, at + header::FLAGS);
-        let checksum = u32_at(searched, at + header::CHECKSUM);
-        magic == HEADER_MAGIC && magic.wrapping_add(flags).wrapping_add(checksum) == 0
-    };
-    let last = searched.len().checked_sub(SHORT_HEADER)?;
-    let found = (0..=last).step_by(4).find(is_header)?;
-    Some(ImageOffset(found as u64))
+/// The lowest offset of a header, and how many false headers stand below it (check 6).
+fn find_header(image: &[u8]) -> Result<(ImageOffset, u32), Refusal> {
+    let magics = magic_offsets(image);
+    match magics.iter().position(|&at| adds_up(image, at)) {
+        Some(below) => Ok((ImageOffset(magics[below] as u64), below as u32)),
+        None => Err(Refusal::NoHeader { false_headers: magics.len() as u32 }),
+    }
+}
+
+/// The offsets, in rising order, that hold the magic: each is a header's or a false header's.
+fn magic_offsets(image: &[u8]) -> Vec<usize> {
+    let end = image.len().min(SEARCH_LIMIT);
+    let has_room = |at: &usize| at + SHORT_HEADER <= end;
+    let has_magic = |at: &usize| u32_at(image, *at) == HEADER_MAGIC;
+    (0..end).step_by(4).take_while(has_room).filter(has_magic).collect()
+}
+
+/// Do the magic at an offset, the flags and the checksum give 0 modulo 2^32?
+fn adds_up(image: &[u8], at: usize) -> bool {
+    let flags = u32_at(image, at + header::FLAGS);
+    let checksum = u32_at(image, at + header::CHECKSUM);
+    HEADER_MAGIC.wrapping_add(flags).wrapping_add(checksum) == 0
 }
 
 /// By the address fields where the flags announce them, else by ELF (check 8).

@@ -139,6 +139,7 @@ fn plan_of(examined: &Examined, placed: &Placed) -> Plan {
     let kernel = &examined.kernel;
     Plan {
         header_offset: word(kernel.header_offset.0),
+        false_headers: kernel.false_headers,
         entry: kernel.entry,
         eax: BOOT_MAGIC,
         ebx: word(placed.block.start),
