@@ -16,7 +16,7 @@ use Rattle.laws.specs.TestLaws.{true-or-false, lt-or-le}
 use Rattle.number.specs.Number.{numberAt}
 use Rattle.header.specs.declared.Searched.{Searched}
 use Rattle.header.specs.Header.{searchLimit, shortHeader, words, header}
-use Rattle.header.specs.FalseHeader.{isFalseHeader, falseHeaderAt, placesPassed, falseHeaders}
+use Rattle.header.specs.FalseHeader.{isFalseHeader, falseHeaderAt, falsePlace, placesPassed, falseHeaders}
 use Rattle.header.specs.FalseHeaderLaws.{no-room, searched-part}
 use Rattle.header.specs.WalkLaws.{words-two, words-three, length-words}
 
@@ -39,7 +39,7 @@ too-few (suc n) (m ∷ f ∷ c ∷ ws) l = absurd (omega arith)
 module _ (s : List ℕ) (short : length s ≤ searchLimit) where
   -- the test of the places from j on
   abbrev test : ℕ → ℕ → Bool
-  test j k = falseHeaderAt s (4 * (j + k))
+  test j k = falsePlace s (j + k)
 
   -- the first of them, where there is room
   first-is : (j : ℕ) → 4 * j + shortHeader ≤ length s → test j 0 ≡ isFalseHeader (numberAt 4 s (4 * j)) (numberAt 4 s (4 * j + 4)) (numberAt 4 s (4 * j + 8))
@@ -93,5 +93,5 @@ count-computes image =
     let n = placesPassed (header image) in
     let short : length part ≤ searchLimit = simp length-take (omega arith) in
     let h = ap (λ (r : Searched). r .header) (searched-part image) in
-    let same = passing-same (λ k. falseHeaderAt part (4 * k)) (λ k. falseHeaderAt part (4 * (0 + k))) (λ k. ap (falseHeaderAt part) (omega arith)) n in
+    let same = passing-same (falsePlace part) (λ k. falsePlace part (0 + k)) (λ k. ap (falseHeaderAt part) (omega arith)) n in
     ap (λ (r : Searched). r .«false_headers») (sym (searched-part image)) ∙ rw h (ap length same ∙ counted-from part short n 0)

@@ -1,7 +1,7 @@
 -- The false headers of an image.                                                       rule: HEADER
---     isFalseHeader, falseHeaderAt    the magic with a wrong sum
---     placesPassed, falseHeaders      how many the search passes over, offset by offset
---     searched                        what the search answers: the header, and that count
+--     isFalseHeader, falseHeaderAt, falsePlace    the magic with a wrong sum
+--     placesPassed, falseHeaders                  how many the search passes over, offset by offset
+--     searched                                    what the search answers: the header, and that count
 -- What a false header is in propositions stands in HeaderAt, and that so many are counted in FalseHeaderLaws.
 -- Assumes nothing.
 use mathlib.Core.Bool.{Bool, not, _&&_}
@@ -27,14 +27,18 @@ falseHeaderAt image o =
     && leb (o + shortHeader) searchLimit
     && isFalseHeader (numberAt 4 image o) (numberAt 4 image (o + 4)) (numberAt 4 image (o + 8))
 
--- how many multiples of 4 lie below the header found, or in the searched part where there is none
+-- the multiples of 4 are places: place k is the offset 4k
+abbrev pub falsePlace : List ℕ → ℕ → Bool
+falsePlace image k = falseHeaderAt image (4 * k)
+
+-- how many places lie below the header found, or in the searched part where there is none
 abbrev pub placesPassed : Search → ℕ
 placesPassed Nothing = searchLimit / 4
 placesPassed (At o) = o .0 / 4
 
 -- how many of them have a false header
 unfoldable pub falseHeaders : List ℕ → ℕ
-falseHeaders image = length (passing (λ k. falseHeaderAt image (4 * k)) (placesPassed (header image)))
+falseHeaders image = length (passing (falsePlace image) (placesPassed (header image)))
 
 abbrev pub searched : List ℕ → Searched
 searched image = record { header = header image; «false_headers» = falseHeaders image }

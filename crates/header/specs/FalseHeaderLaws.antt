@@ -24,7 +24,7 @@ use Rattle.address.specs.declared.ImageOffset.{ImageOffset}
 use Rattle.header.specs.declared.Search.{Search}
 use Rattle.header.specs.declared.Search.the-variants.{At, Nothing}
 use Rattle.header.specs.Header.{headerMagic, searchLimit, shortHeader, sumIsZero, words, headerFrom, header}
-use Rattle.header.specs.FalseHeader.{isFalseHeader, falseHeaderAt, placesPassed, falseHeaders, searched}
+use Rattle.header.specs.FalseHeader.{isFalseHeader, falseHeaderAt, falsePlace, placesPassed, falseHeaders, searched}
 use Rattle.header.specs.HeaderAt.{FalseHeaderAt}
 use Rattle.header.specs.HeaderLaws.{word-take}
 
@@ -76,7 +76,7 @@ module _ (image : List ℕ) where
 
   counted : (r : Search) → header image ≡ r → HowMany FalsePlace (placesPassed r) (falseHeaders image)
   unfolding falseHeaders
-  counted r e = rw e (passing-how-many (λ k. falseHeaderAt image (4 * k)) FalsePlace (placesPassed r) (λ k. false-is image (4 * k) (omega arith)))
+  counted r e = rw e (passing-how-many (falsePlace image) FalsePlace (placesPassed r) (λ k. false-is image (4 * k) (omega arith)))
 
   -- below the header found
   pub false-below : (o : ImageOffset) → header image ≡ At o → HowMany FalsePlace (o .0 / 4) (falseHeaders image)
@@ -89,11 +89,10 @@ module _ (image : List ℕ) where
   pub false-most : falseHeaders image ≤ 2046
   unfolding falseHeaders
   false-most =
-      let f : ℕ → Bool = λ k. falseHeaderAt image (4 * k) in
       let n = placesPassed (header image) in
       ⊎-elim
-      (λ (l : n < 2046). omega (arith, passing-most f n))
-      (λ (l : 2046 ≤ n). rw (passing-past f 2046 n l (λ k m. too-late image (4 * k) (omega arith))) (passing-most f 2046))
+      (λ (l : n < 2046). omega (arith, passing-most (falsePlace image) n))
+      (λ (l : 2046 ≤ n). rw (passing-past (falsePlace image) 2046 n l (λ k m. too-late image (4 * k) (omega arith))) (passing-most (falsePlace image) 2046))
       (lt-or-le n 2046)
 
 -- the searched part of an image
@@ -127,4 +126,4 @@ module _ (image : List ℕ) where
 
   pub searched-part : searched part ≡ searched image
   unfolding falseHeaders
-  searched-part = rw (header-same, passing-same (λ k. falseHeaderAt part (4 * k)) (λ k. falseHeaderAt image (4 * k)) (λ k. false-same (4 * k)) (placesPassed (header image)))
+  searched-part = rw (header-same, passing-same (falsePlace part) (falsePlace image) (λ k. false-same (4 * k)) (placesPassed (header image)))
