@@ -27,7 +27,7 @@ extern "C" {
  *     the top                   0xFFFFF000
  *     the header                Multiboot's: magic 0x1BADB002, flags and checksum, which add up to 0 in 32 bits, at the lowest
  *                               multiple of 4 where they stand inside the image's first 8,192 bytes
- *     a false header            the magic at such a multiple of 4, with flags and checksum that add up to something else
+ *     a false header            the same at any multiple of 4 inside the image's first 8,192 bytes, but with another sum
  *     header_addr, load_addr,   the address fields, from offset 12 of the header on; flag bit 16 announces them
  *     load_end_addr,
  *     bss_end_addr, entry_addr
@@ -100,7 +100,7 @@ static inline const char *viertompu_reason(uint32_t number)
 #define VIERTOMPU_BLOCK_END 7       /* its end */
 #define VIERTOMPU_SEGMENTS 8        /* the segments of the kernel, of three words each; zeros past the last */
 #define VIERTOMPU_MODULES 56        /* the modules, of two words each; zeros past the last */
-#define VIERTOMPU_FALSE_HEADERS 88  /* how many false headers stand before the header */
+#define VIERTOMPU_FALSE_HEADERS 88  /* how many false headers stand below the header */
 #define VIERTOMPU_ZEROS 89          /* from here on the words are zero */
 
 #define VIERTOMPU_SEGMENT_WORDS 3

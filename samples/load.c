@@ -1,6 +1,6 @@
 /*
  * Loads the submission named on the command line on the board of the review program, and prints its plan; a refusal's
- * sentence goes to standard error, and so does, with a load, how many false headers stand before the header, if any do.
+ * sentence goes to standard error, and so does, with a load, how many false headers stand below the header, if any do.
  *
  *     gcc -std=c99 -Iinclude samples/load.c target/staticlib/libviertompu.a -o load
  */
@@ -68,7 +68,7 @@ int main(int argc, char **argv)
     if (number == VIERTOMPU_LOAD) {
         print_plan(plan);
         if (plan[VIERTOMPU_FALSE_HEADERS] != 0)
-            fprintf(stderr, "false headers before the header: %u\n", (unsigned)plan[VIERTOMPU_FALSE_HEADERS]);
+            fprintf(stderr, "false headers below the header: %u\n", (unsigned)plan[VIERTOMPU_FALSE_HEADERS]);
     } else {
         printf("refused %u %u\n", (unsigned)number, (unsigned)plan[VIERTOMPU_ITEM]);
         fprintf(stderr, "%s\n", viertompu_reason(number));

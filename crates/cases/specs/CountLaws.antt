@@ -16,7 +16,7 @@ use Rattle.laws.specs.TestLaws.{true-or-false, lt-or-le}
 use Rattle.number.specs.Number.{numberAt}
 use Rattle.header.specs.declared.Searched.{Searched}
 use Rattle.header.specs.Header.{searchLimit, shortHeader, words, header}
-use Rattle.header.specs.FalseHeader.{isFalseHeader, falseHeaderAt, falsePlace, placesPassed, falseHeaders}
+use Rattle.header.specs.FalseHeader.{isFalseHeader, isFalseHeaderAt, isFalsePlace, placesPassed, falseHeaders}
 use Rattle.header.specs.FalseHeaderLaws.{no-room, searched-part}
 use Rattle.header.specs.WalkLaws.{words-two, words-three, length-words}
 
@@ -39,11 +39,11 @@ too-few (suc n) (m ∷ f ∷ c ∷ ws) l = absurd (omega arith)
 module _ (s : List ℕ) (short : length s ≤ searchLimit) where
   -- the test of the places from j on
   abbrev test : ℕ → ℕ → Bool
-  test j k = falsePlace s (j + k)
+  test j k = isFalsePlace s (j + k)
 
   -- the first of them, where there is room
   first-is : (j : ℕ) → 4 * j + shortHeader ≤ length s → test j 0 ≡ isFalseHeader (numberAt 4 s (4 * j)) (numberAt 4 s (4 * j + 4)) (numberAt 4 s (4 * j + 8))
-  unfolding falseHeaderAt
+  unfolding isFalseHeaderAt
   first-is j l =
       let e : 4 * (j + 0) ≡ 4 * j = omega arith in
       rw (e, le-leb (4 * j + shortHeader) (length s) l, le-leb (4 * j + shortHeader) searchLimit (omega arith))
@@ -77,7 +77,7 @@ module _ (s : List ℕ) (short : length s ≤ searchLimit) where
       ⊎-elim
       (λ (l : length s < 4 * j + shortHeader). none-from (suc n) j l)
       (λ (l : 4 * j + shortHeader ≤ length s).
-      let same = ap length (passing-same (λ k. test j (suc k)) (test (suc j)) (λ k. ap (falseHeaderAt s) (omega arith)) n) in
+      let same = ap length (passing-same (λ k. test j (suc k)) (test (suc j)) (λ k. ap (isFalseHeaderAt s) (omega arith)) n) in
       let rest = counted-from n (suc j) in
       ⊎-elim
       (λ (t : test j 0 ≡ true). rw (words-at j n l, t) (omega (arith, passing-front (test j) n, one-is j true t, same, rest)))
@@ -85,7 +85,7 @@ module _ (s : List ℕ) (short : length s ≤ searchLimit) where
       (true-or-false (test j 0)))
       (lt-or-le (length s) (4 * j + shortHeader))
 
--- the searched part has the false headers of the image
+-- the count of an image, by the words of its searched part
 pub count-computes : (image : List ℕ) → falseHeaders image ≡ countedUpTo (placesPassed (header image)) (words (take searchLimit image))
 unfolding falseHeaders
 count-computes image =
@@ -93,5 +93,5 @@ count-computes image =
     let n = placesPassed (header image) in
     let short : length part ≤ searchLimit = simp length-take (omega arith) in
     let h = ap (λ (r : Searched). r .header) (searched-part image) in
-    let same = passing-same (falsePlace part) (λ k. falsePlace part (0 + k)) (λ k. ap (falseHeaderAt part) (omega arith)) n in
+    let same = passing-same (isFalsePlace part) (λ k. isFalsePlace part (0 + k)) (λ k. ap (isFalseHeaderAt part) (omega arith)) n in
     ap (λ (r : Searched). r .«false_headers») (sym (searched-part image)) ∙ rw h (ap length same ∙ counted-from part short n 0)

@@ -1,6 +1,7 @@
 -- Worked examples: what is lent, and what must come out of it, in the plan and in a window of zeros from 0x100000 on.
 --     Input, lentOf, windowOf    what is lent: a submission, a memory map and a window                rule: REVIEW
 --     Outcome, columns           what comes out: the answer, the plan, and what the kernel is handed and reads
+--     refusal                    what comes out of a refusal
 --     outcomeOf                  what the definitions give
 --     Row, longRows, shortRows, rows
 --                                the examples, written `input yields outcome`
@@ -77,7 +78,7 @@ pub record Stretch : Type 0 where
   pub loadEnd : ℕ
   pub extentEnd : ℕ
 
--- of the plan: how many false headers stand before the header, the segments, and the addresses of the entry, the first module
+-- of the plan: how many false headers stand below the header, the segments, and the addresses of the entry, the first module
 -- and the information block
 pub record Places : Type 0 where
   pub falseHeaders : ℕ

@@ -26,7 +26,7 @@ use Rattle.submission.specs.Rules.{isSubmission, inLimits, stringHolds, rulesHo
 use Rattle.command_line.specs.CommandLine.{operatorChecks, commandLine}
 use Rattle.command_line.specs.LineInForce.{lineInForce}
 use Rattle.header.specs.Header.{searchLimit, words, isHeader, headerFrom, header}
-use Rattle.header.specs.FalseHeader.{isFalseHeader, falseHeaderAt, placesPassed, falseHeaders}
+use Rattle.header.specs.FalseHeader.{isFalseHeader, isFalseHeaderAt, placesPassed, falseHeaders}
 use Rattle.image.specs.Load.{fieldsAt, loadLength}
 use Rattle.kernel.specs.Kernel.{kernelWith}
 use Rattle.kernel.specs.Checks.{entryIn, entryOutside, entryChecks, overlapNo, overlapsEarlier, extentsOverlap}
@@ -81,7 +81,7 @@ all-served : served rows ≡ true
 unfolding longRows shortRows
 all-served = refl
 
--- where the false headers of the whole searched part count, they are counted from the front
+-- the image of a row, and the count of its false headers from the front
 module _ (r : Row) where
   abbrev imageOfRow : List ℕ
   imageOfRow = imageIn (lentOf (r .input))
@@ -94,7 +94,7 @@ counts-compute [] = refl
 counts-compute (r ∷ rs) = rw (count-computes (imageOfRow r), counts-compute rs)
 
 long-refused : map (λ (r : Row). modelOutcome (r .input)) longRows ≡ map (λ (r : Row). refusal 6 (falseHeaders (imageOfRow r))) longRows
-unfolding longRows columns modelIn decisionWith modelDecision contentsWith writesWith memoryWith modelMemory segmentWrite moduleWrite lentChecks extentOpen kernelOpen kernelChecks roomChecks planOf noPlan decidedBy extentsOf loadItem itemsOf moduleSpans structureWords textSize textsSize blockLength structureFor entryWords entries partsOf blockOf stringLengths bootModules walk computed computedFrom runEnd computedLower computedUpper withSpan takenBy isTaken isFree takenEdge freeEdge windowChecks openEdge isOpen mapEdge covers usableBy barredBy isUsable nextOffset pairOffset begins pairCount tooSmall pastEnd badMap mapChecks pairAt firstPairs parsedMap unknownKind headerChecks loadChecks fieldChecks kindChecks entryChecks imageChecks kernelFor fieldsKernel kernelOf elfHeader programHeaderAt isSegment segmentsAmong elfKernel rightKind tableFits wellFormed fits badHeader badNo elfChecks kernelWith entryIn entryOutside overlapNo overlapsEarlier extentsOverlap overlap passing onlyIf fieldsAt loadLength words isHeader headerFrom header operatorChecks lineInForce commandLine isSubmission inLimits stringHolds rulesHold submissionChecks dataStart layoutOf hasZero sameBytes nearest spanEdge edgeUpTo isMultiple roundUp inside patched written number numberBytes wordBytes firstOf passes listed any allFrom run
+unfolding longRows columns decisionWith modelDecision memoryWith modelMemory lentChecks noPlan decidedBy windowChecks nextOffset pairOffset begins pairCount tooSmall pastEnd badMap mapChecks pairAt firstPairs parsedMap headerChecks imageChecks words isHeader headerFrom header operatorChecks isSubmission inLimits stringHolds rulesHold submissionChecks dataStart layoutOf hasZero sameBytes patched number numberBytes wordBytes firstOf passes listed any allFrom run
 long-refused = refl
 
 long-counted : map (λ (r : Row). refusal 6 (countOfRow r)) longRows ≡ map (λ (r : Row). r .outcome) longRows
@@ -102,7 +102,7 @@ unfolding longRows countedUpTo isFalseHeader words isHeader headerFrom header la
 long-counted = refl
 
 computed-short : map (λ (r : Row). modelOutcome (r .input)) shortRows ≡ map (λ (r : Row). r .outcome) shortRows
-unfolding shortRows columns modelIn decisionWith modelDecision contentsWith writesWith memoryWith modelMemory segmentWrite moduleWrite lentChecks extentOpen kernelOpen kernelChecks roomChecks planOf noPlan decidedBy extentsOf loadItem itemsOf moduleSpans structureWords textSize textsSize blockLength structureFor entryWords entries partsOf blockOf stringLengths bootModules walk computed computedFrom runEnd computedLower computedUpper withSpan takenBy isTaken isFree takenEdge freeEdge windowChecks openEdge isOpen mapEdge covers usableBy barredBy isUsable nextOffset pairOffset begins pairCount tooSmall pastEnd badMap mapChecks pairAt firstPairs parsedMap unknownKind headerChecks loadChecks fieldChecks kindChecks entryChecks imageChecks kernelFor fieldsKernel kernelOf elfHeader programHeaderAt isSegment segmentsAmong elfKernel rightKind tableFits wellFormed fits badHeader badNo elfChecks kernelWith entryIn entryOutside overlapNo overlapsEarlier extentsOverlap overlap passing onlyIf fieldsAt loadLength words isHeader headerFrom header isFalseHeader falseHeaderAt falseHeaders operatorChecks lineInForce commandLine isSubmission inLimits stringHolds rulesHold submissionChecks dataStart layoutOf hasZero sameBytes nearest spanEdge edgeUpTo isMultiple roundUp inside patched written number numberBytes wordBytes firstOf passes listed any allFrom run
+unfolding shortRows columns modelIn decisionWith modelDecision contentsWith writesWith memoryWith modelMemory segmentWrite moduleWrite lentChecks extentOpen kernelOpen kernelChecks roomChecks planOf noPlan decidedBy extentsOf loadItem itemsOf moduleSpans structureWords textSize textsSize blockLength structureFor entryWords entries partsOf blockOf stringLengths bootModules walk computed computedFrom runEnd computedLower computedUpper withSpan takenBy isTaken isFree takenEdge freeEdge windowChecks openEdge isOpen mapEdge covers usableBy barredBy isUsable nextOffset pairOffset begins pairCount tooSmall pastEnd badMap mapChecks pairAt firstPairs parsedMap unknownKind headerChecks loadChecks fieldChecks kindChecks entryChecks imageChecks kernelFor fieldsKernel kernelOf elfHeader programHeaderAt isSegment segmentsAmong elfKernel rightKind tableFits wellFormed fits badHeader badNo elfChecks kernelWith entryIn entryOutside overlapNo overlapsEarlier extentsOverlap overlap passing onlyIf fieldsAt loadLength words isHeader headerFrom header isFalseHeader isFalseHeaderAt falseHeaders operatorChecks lineInForce commandLine isSubmission inLimits stringHolds rulesHold submissionChecks dataStart layoutOf hasZero sameBytes nearest spanEdge edgeUpTo isMultiple roundUp inside patched written number numberBytes wordBytes firstOf passes listed any allFrom run
 computed-short = refl
 
 computed-rows : map (λ (r : Row). modelOutcome (r .input)) rows ≡ map (λ (r : Row). r .outcome) rows

@@ -14,7 +14,7 @@ use Rattle.laws.specs.Passing.{passing}
 use Rattle.laws.specs.Tests.{any}
 use Rattle.laws.specs.TestLaws.{any-more}
 use Rattle.kernel.specs.declared.Segment.{Segment}
-use Rattle.kernel.specs.declared.Announcement.{Announcement}
+use Rattle.kernel.specs.declared.FoundHeader.{FoundHeader}
 use Rattle.kernel.specs.Kernel.{maxSegments, noSegment, placesOf, kernelWith}
 use Rattle.kernel.specs.KernelLaws.{places-more}
 use Rattle.elf.specs.declared.Table.{Table}
@@ -52,7 +52,7 @@ pub bad-more : (image : List ℕ) (i : ℕ) (bad : Bool) (p : ProgramHeader) (r 
 unfolding badNo
 bad-more image i bad p r e f g = rw (g, any-more (badNo image) i, e, f)
 
-pub gathered-all : (image : List ℕ) (h : ElfHeader) (announced : Announcement) (i : ℕ) (segments : List Segment) (count : ℕ) (bad : Bool) → HeaderRead image h → i ≡ h .«e_phnum» → Gathered image i segments count → bad ≡ any (badNo image) i
-    → _≡_ {A = Table} (record { kernel = record { header = announced .header; «false_headers» = announced .«false_headers»; pages = announced .pages; entry = h .«e_entry»; segments = segments; count = count }; bad = bad }) (record { kernel = elfKernel image announced; bad = any (badNo image) (h .«e_phnum») })
+pub gathered-all : (image : List ℕ) (h : ElfHeader) (found : FoundHeader) (i : ℕ) (segments : List Segment) (count : ℕ) (bad : Bool) → HeaderRead image h → i ≡ h .«e_phnum» → Gathered image i segments count → bad ≡ any (badNo image) i
+    → _≡_ {A = Table} (record { kernel = record { header = found .offset; «false_headers» = found .«false_headers»; pages = found .pages; entry = h .«e_entry»; segments = segments; count = count }; bad = bad }) (record { kernel = elfKernel image found; bad = any (badNo image) (h .«e_phnum») })
 unfolding elfKernel kernelWith
-gathered-all image h announced i segments count bad r e g b = rw (b, g .places, g .taken, e, r .is)
+gathered-all image h found i segments count bad r e g b = rw (b, g .places, g .taken, e, r .is)

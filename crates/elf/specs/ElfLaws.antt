@@ -26,7 +26,7 @@ use Rattle.address.specs.Span.{Holds}
 use Rattle.answer.specs.declared.Answer.the-variants.{Load, BadElf, BadProgramHeader, SegmentsOverlap}
 use Rattle.answer.specs.ChainLaws.{check-passed}
 use Rattle.kernel.specs.declared.Segment.{Segment}
-use Rattle.kernel.specs.declared.Announcement.{Announcement}
+use Rattle.kernel.specs.declared.FoundHeader.{FoundHeader}
 use Rattle.kernel.specs.declared.Kernel.{Kernel}
 use Rattle.kernel.specs.Kernel.{maxSegments, noSegment, kernelWith, segmentNo, extentNo}
 use Rattle.kernel.specs.KernelLaws.{kernel-at, kernel-past, GoodSegment}
@@ -42,9 +42,9 @@ use Rattle.elf.specs.GoodElf.{SegmentAt, GoodElfHeader, GoodElf, GoodHea
 use Rattle.elf.specs.Tabled.{Tabled}
 use Rattle.elf.specs.Checks.{rightKind, tableFits, wellFormed, fits, badHeader, badNo, elfChecks}
 
-pub few-segments : (image : List ℕ) (announced : Announcement) (h : ElfHeader) → HeaderRead image h → h .«e_phnum» ≤ maxSegments → elfKernel image announced .count ≤ maxSegments
+pub few-segments : (image : List ℕ) (found : FoundHeader) (h : ElfHeader) → HeaderRead image h → h .«e_phnum» ≤ maxSegments → elfKernel image found .count ≤ maxSegments
 unfolding elfKernel kernelWith
-few-segments image announced h r l = rw (← r .is) (omega (arith, among-most image (h .«e_phnum»)))
+few-segments image found h r l = rw (← r .is) (omega (arith, among-most image (h .«e_phnum»)))
 
 -- a program header is a segment
 pub segment-is : (p : ProgramHeader) → (isSegment p ≡ true) ↔ ((p .«p_type» ≡ 1) × (p .«p_memsz» ≡ 0 → ⊥))
@@ -52,38 +52,38 @@ unfolding isSegment
 segment-is p = and-is (isLoadable p) (not (eqb (p .«p_memsz») 0)) (eqb-is (p .«p_type») 1) (not-is (eqb (p .«p_memsz») 0) (eqb-is (p .«p_memsz») 0))
 
 -- the kernel's segments are those of the table
-module _ (image : List ℕ) (announced : Announcement) where
+module _ (image : List ℕ) (found : FoundHeader) where
   abbrev indices : List ℕ
   indices = passing (isSegmentNo image) (elfHeader image .«e_phnum»)
 
-  count-is : elfKernel image announced .count ≡ length indices
+  count-is : elfKernel image found .count ≡ length indices
   unfolding elfKernel kernelWith
   count-is = among-length image (elfHeader image .«e_phnum»)
 
   abbrev indexOf : ℕ → ℕ
   indexOf i = getD indices i 0
 
-  segment-at : (i : ℕ) → i < elfKernel image announced .count → segmentNo (elfKernel image announced) i ≡ tableSegment image (indexOf i)
+  segment-at : (i : ℕ) → i < elfKernel image found .count → segmentNo (elfKernel image found) i ≡ tableSegment image (indexOf i)
   unfolding elfKernel kernelWith
   segment-at i l =
-      kernel-at announced (elfHeader image .«e_entry») (segmentsAmong image (elfHeader image .«e_phnum»)) i
+      kernel-at found (elfHeader image .«e_entry») (segmentsAmong image (elfHeader image .«e_phnum»)) i
       ∙ among-at image (elfHeader image .«e_phnum») i l
 
-  listed-at : (i : ℕ) → i < elfKernel image announced .count → SegmentAt image (indexOf i)
+  listed-at : (i : ℕ) → i < elfKernel image found .count → SegmentAt image (indexOf i)
   listed-at i l =
       let r = passing-at (isSegmentNo image) (elfHeader image .«e_phnum») i (omega (arith, count-is)) in
       let s = segment-is (programHeaderNo image (indexOf i)) .0 (r .1) in
       record { entry = r .0; loadable = s .0; some = s .1 }
 
-  past : (i : ℕ) → elfKernel image announced .count ≤ i → segmentNo (elfKernel image announced) i ≡ noSegment
+  past : (i : ℕ) → elfKernel image found .count ≤ i → segmentNo (elfKernel image found) i ≡ noSegment
   unfolding elfKernel kernelWith
-  past i l = kernel-past announced (elfHeader image .«e_entry») (segmentsAmong image (elfHeader image .«e_phnum»)) i l
+  past i l = kernel-past found (elfHeader image .«e_entry») (segmentsAmong image (elfHeader image .«e_phnum»)) i l
 
-  entry-at : elfKernel image announced .entry .0 ≡ elfHeader image .«e_entry» .0
+  entry-at : elfKernel image found .entry .0 ≡ elfHeader image .«e_entry» .0
   unfolding elfKernel kernelWith
   entry-at = refl
 
-  pub tabled : Tabled image (elfKernel image announced)
+  pub tabled : Tabled image (elfKernel image found)
   tabled =
       record {
         index = indexOf;
@@ -131,19 +131,19 @@ formed-is h n =
       λ f. rw (le-leb _ _ (f .long), eq-eqb _ _ (f .class), eq-eqb _ _ (f .order), eq-eqb _ _ (f .kind), eq-eqb _ _ (f .machine), eq-eqb _ _ (f .size), le-leb _ _ (f .table), le-leb _ _ (f .few)),
     )
 
-module _ (image : List ℕ) (announced : Announcement) where
+module _ (image : List ℕ) (found : FoundHeader) where
   -- there is a segment exactly where the kernel has one
-  some-is : (eqb (elfKernel image announced .count) 0 ≡ false) ↔ ((i : ℕ) × SegmentAt image i)
+  some-is : (eqb (elfKernel image found .count) 0 ≡ false) ↔ ((i : ℕ) × SegmentAt image i)
   some-is =
-      let t = tabled image announced in (
-        λ e. let n : elfKernel image announced .count ≡ 0 → ⊥ = eqb-false _ _ e in (t .index 0, t .listed 0 (omega arith)),
-        λ s. let r = t .every (s .0) (s .1) in ne-eqb _ _ (λ (z : elfKernel image announced .count ≡ 0). omega (arith, r .1)),
+      let t = tabled image found in (
+        λ e. let n : elfKernel image found .count ≡ 0 → ⊥ = eqb-false _ _ e in (t .index 0, t .listed 0 (omega arith)),
+        λ s. let r = t .every (s .0) (s .1) in ne-eqb _ _ (λ (z : elfKernel image found .count ≡ 0). omega (arith, r .1)),
       )
 
-  pub elf-good-is : ((not (wellFormed (elfHeader image) (length image)) || eqb (elfKernel image announced .count) 0) ≡ false) ↔ GoodElf image
+  pub elf-good-is : ((not (wellFormed (elfHeader image) (length image)) || eqb (elfKernel image found .count) 0) ≡ false) ↔ GoodElf image
   elf-good-is =
       let w = wellFormed (elfHeader image) (length image) in
-      let none = eqb (elfKernel image announced .count) 0 in (
+      let none = eqb (elfKernel image found .count) 0 in (
         λ e.
             record { header = formed-is (elfHeader image) (length image) .0 (not-false w (or-none-left (not w) none e)); some = some-is .0 (or-none-right (not w) none e) },
         λ g. rw (formed-is (elfHeader image) (length image) .1 (g .header)) (some-is .1 (g .some)),
@@ -188,23 +188,23 @@ headers-good-is image =
         (true-or-false t)
 
 -- 20 and 14
-module _ (image : List ℕ) (announced : Announcement) where
-  takes : (i : ℕ) → i < elfKernel image announced .count → (a : ℕ) → Holds (extentNo (elfKernel image announced) i) a ↔ Takes (programHeaderNo image (tabled image announced .index i)) a
+module _ (image : List ℕ) (found : FoundHeader) where
+  takes : (i : ℕ) → i < elfKernel image found .count → (a : ℕ) → Holds (extentNo (elfKernel image found) i) a ↔ Takes (programHeaderNo image (tabled image found .index i)) a
   takes i l a =
-      let t = tabled image announced in
+      let t = tabled image found in
       (λ h. (omega (arith, t .start i l), omega (arith, t .end i l)), λ h. (omega (arith, t .start i l), omega (arith, t .end i l)))
 
   -- no segment is empty
-  pub extent-some : (i : ℕ) → i < elfKernel image announced .count → extentNo (elfKernel image announced) i .start .0 < extentNo (elfKernel image announced) i .end .0
+  pub extent-some : (i : ℕ) → i < elfKernel image found .count → extentNo (elfKernel image found) i .start .0 < extentNo (elfKernel image found) i .end .0
   extent-some i l =
-      let t = tabled image announced in
+      let t = tabled image found in
       let n : programHeaderNo image (t .index i) .«p_memsz» ≡ 0 → ⊥ = t .listed i l .some in
       omega (arith, t .start i l, t .end i l, n)
 
   -- segments come in the order of their entries
-  in-order : (i j : ℕ) → i < elfKernel image announced .count → tabled image announced .index i < tabled image announced .index j → i < j
+  in-order : (i j : ℕ) → i < elfKernel image found .count → tabled image found .index i < tabled image found .index j → i < j
   in-order i j l m =
-      let t = tabled image announced in
+      let t = tabled image found in
       ⊎-elim
       (λ (u : i < j). u)
       (λ (u : j ≤ i).
@@ -214,28 +214,28 @@ module _ (image : List ℕ) (announced : Announcement) where
       (lt-or-le j i))
       (lt-or-le i j)
 
-  pub segments-apart-is : (extentsOverlap (elfKernel image announced) ≡ false) ↔ ((i j : ℕ) → i < j → SegmentAt image i → SegmentAt image j → (a : ℕ) → Takes (programHeaderNo image i) a → Takes (programHeaderNo image j) a → ⊥)
+  pub segments-apart-is : (extentsOverlap (elfKernel image found) ≡ false) ↔ ((i j : ℕ) → i < j → SegmentAt image i → SegmentAt image j → (a : ℕ) → Takes (programHeaderNo image i) a → Takes (programHeaderNo image j) a → ⊥)
   segments-apart-is =
-      let t = tabled image announced in (
+      let t = tabled image found in (
         λ e i j l m n a p q.
             let u = t .every i m in
             let v = t .every j n in
-            extents-apart (elfKernel image announced) e (u .0) (v .0) (in-order (u .0) (v .0) (u .1) (rw (u .2, v .2) l)) (v .1) a (takes (u .0) (u .1) a .1 (rw (u .2) p)) (takes (v .0) (v .1) a .1 (rw (v .2) q)),
-        λ h. apart-extents (elfKernel image announced) extent-some
+            extents-apart (elfKernel image found) e (u .0) (v .0) (in-order (u .0) (v .0) (u .1) (rw (u .2, v .2) l)) (v .1) a (takes (u .0) (u .1) a .1 (rw (u .2) p)) (takes (v .0) (v .1) a .1 (rw (v .2) q)),
+        λ h. apart-extents (elfKernel image found) extent-some
             (λ i j l m a p q.
-            let u : i < elfKernel image announced .count = omega arith in
+            let u : i < elfKernel image found .count = omega arith in
             h (t .index i) (t .index j) (t .rising i j l m) (t .listed i u) (t .listed j m) a (takes i u a .0 p) (takes j m a .0 q)),
       )
 
-  pub entry-is : (entryOutside (elfKernel image announced) ≡ true)
+  pub entry-is : (entryOutside (elfKernel image found) ≡ true)
       ↔ ((i : ℕ) → SegmentAt image i → (programHeaderNo image i .«p_paddr» .0 ≤ elfHeader image .«e_entry» .0) × (elfHeader image .«e_entry» .0 < programHeaderNo image i .«p_paddr» .0 + programHeaderNo image i .«p_filesz») → ⊥)
   entry-is =
-      let t = tabled image announced in
-      let is = entry-outside-is (elfKernel image announced) in (
+      let t = tabled image found in
+      let is = entry-outside-is (elfKernel image found) in (
         λ e i m h.
             let u = t .every i m in
-            let s : segmentNo (elfKernel image announced) (u .0) .start .0 ≡ programHeaderNo image i .«p_paddr» .0 = t .start (u .0) (u .1) ∙ ap (λ (n : ℕ). programHeaderNo image n .«p_paddr» .0) (u .2) in
-            let f : segmentNo (elfKernel image announced) (u .0) .«load_end» .0 ≡ programHeaderNo image i .«p_paddr» .0 + programHeaderNo image i .«p_filesz» = t .load-end (u .0) (u .1) ∙ ap (λ (n : ℕ). programHeaderNo image n .«p_paddr» .0 + programHeaderNo image n .«p_filesz») (u .2) in
+            let s : segmentNo (elfKernel image found) (u .0) .start .0 ≡ programHeaderNo image i .«p_paddr» .0 = t .start (u .0) (u .1) ∙ ap (λ (n : ℕ). programHeaderNo image n .«p_paddr» .0) (u .2) in
+            let f : segmentNo (elfKernel image found) (u .0) .«load_end» .0 ≡ programHeaderNo image i .«p_paddr» .0 + programHeaderNo image i .«p_filesz» = t .load-end (u .0) (u .1) ∙ ap (λ (n : ℕ). programHeaderNo image n .«p_paddr» .0 + programHeaderNo image n .«p_filesz») (u .2) in
             is .0 e (u .0) (u .1) (omega (arith, t .entry), omega (arith, t .entry)),
         λ h. is .1 (λ i l p. h (t .index i) (t .listed i l) (omega (arith, t .start i l, t .entry), omega (arith, t .load-end i l, t .entry))),
       )
@@ -246,38 +246,38 @@ pub record ElfPassed (image : List ℕ) (k : Kernel) : Type 0 where
   pub segments : (i : ℕ) → i < k .count → GoodSegment image (segmentNo k i)
   pub apart : extentsOverlap k ≡ false
 
-module _ (image : List ℕ) (announced : Announcement) (e : firstOf (elfChecks image (elfKernel image announced)) Load ≡ Load) where
+module _ (image : List ℕ) (found : FoundHeader) (e : firstOf (elfChecks image (elfKernel image found)) Load ≡ Load) where
   abbrev unformed : Bool
-  unformed = not (wellFormed (elfHeader image) (length image)) || eqb (elfKernel image announced .count) 0
+  unformed = not (wellFormed (elfHeader image) (length image)) || eqb (elfKernel image found .count) 0
 
-  passed-18 : (unformed ≡ false) × (firstOf (any (badNo image) (elfHeader image .«e_phnum») gives BadProgramHeader ∷ extentsOverlap (elfKernel image announced) gives SegmentsOverlap ∷ []) Load ≡ Load)
+  passed-18 : (unformed ≡ false) × (firstOf (any (badNo image) (elfHeader image .«e_phnum») gives BadProgramHeader ∷ extentsOverlap (elfKernel image found) gives SegmentsOverlap ∷ []) Load ≡ Load)
   unfolding elfChecks
   passed-18 = check-passed unformed BadElf _ refl e
 
-  passed-19 : (any (badNo image) (elfHeader image .«e_phnum») ≡ false) × (firstOf (extentsOverlap (elfKernel image announced) gives SegmentsOverlap ∷ []) Load ≡ Load)
+  passed-19 : (any (badNo image) (elfHeader image .«e_phnum») ≡ false) × (firstOf (extentsOverlap (elfKernel image found) gives SegmentsOverlap ∷ []) Load ≡ Load)
   passed-19 = check-passed (any (badNo image) (elfHeader image .«e_phnum»)) BadProgramHeader _ refl (passed-18 .1)
 
-  good-segment : (i : ℕ) → i < elfKernel image announced .count → GoodSegment image (segmentNo (elfKernel image announced) i)
+  good-segment : (i : ℕ) → i < elfKernel image found .count → GoodSegment image (segmentNo (elfKernel image found) i)
   good-segment i l =
-      let t = tabled image announced in
+      let t = tabled image found in
       let s = t .listed i l in
       let g = headers-good-is image .0 (passed-19 .0) (t .index i) (s .entry) (s .loadable) in
       record {
         loaded = omega (arith, t .start i l, t .load-end i l);
         end = omega (arith, t .load-end i l, t .end i l, g .sizes);
-        some = extent-some image announced i l;
+        some = extent-some image found i l;
         inside = λ j u.
             let v = g .inside (λ (z : programHeaderNo image (t .index i) .«p_filesz» ≡ 0). omega (arith, t .start i l, t .load-end i l)) in
             omega (arith, t .start i l, t .load-end i l, t .offset i l, v);
       }
 
-  pub elf-passed : ElfPassed image (elfKernel image announced)
+  pub elf-passed : ElfPassed image (elfKernel image found)
   elf-passed =
       record {
         few = omega (arith, entries);
         segments = good-segment;
-        apart = check-passed (extentsOverlap (elfKernel image announced)) SegmentsOverlap _ refl (passed-19 .1) .0;
+        apart = check-passed (extentsOverlap (elfKernel image found)) SegmentsOverlap _ refl (passed-19 .1) .0;
       }
     where
-      entries : elfKernel image announced .count ≤ 16
-      entries = omega (arith, elf-good-is image announced .0 (passed-18 .0) .header .few, count-is image announced, passing-most (isSegmentNo image) (elfHeader image .«e_phnum»))
+      entries : elfKernel image found .count ≤ 16
+      entries = omega (arith, elf-good-is image found .0 (passed-18 .0) .header .few, count-is image found, passing-most (isSegmentNo image) (elfHeader image .«e_phnum»))

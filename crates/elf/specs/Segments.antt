@@ -11,7 +11,7 @@ use Prim.Native.Nat.{ℕ, _+_}
 use lib.Dec.{eqb}
 use Rattle.laws.specs.Passing.{passing}
 use Rattle.kernel.specs.declared.Segment.{Segment}
-use Rattle.kernel.specs.declared.Announcement.{Announcement}
+use Rattle.kernel.specs.declared.FoundHeader.{FoundHeader}
 use Rattle.kernel.specs.declared.Kernel.{Kernel}
 use Rattle.kernel.specs.Kernel.{kernelWith}
 use Rattle.elf.specs.declared.read.ProgramHeader.{ProgramHeader}
@@ -46,6 +46,6 @@ tableSegment image i = segmentOf (programHeaderNo image i)
 unfoldable pub segmentsAmong : List ℕ → ℕ → List Segment
 segmentsAmong image n = map (tableSegment image) (passing (isSegmentNo image) n)
 
--- the kernel of an ELF image whose Multiboot header announces so much: all segments of the table
-unfoldable pub elfKernel : List ℕ → Announcement → Kernel
-elfKernel image announced = kernelWith announced (elfHeader image .«e_entry») (segmentsAmong image (elfHeader image .«e_phnum»))
+-- the kernel of an ELF image with this Multiboot header: all segments of the table
+unfoldable pub elfKernel : List ℕ → FoundHeader → Kernel
+elfKernel image found = kernelWith found (elfHeader image .«e_entry») (segmentsAmong image (elfHeader image .«e_phnum»))

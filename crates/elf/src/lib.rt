@@ -1,6 +1,6 @@
 // An ELF image: the checks on its header and its table, and the kernel of its segments.
 use answer::Answer;
-use kernel::Announcement;
+use kernel::FoundHeader;
 use kernel::Judged;
 use kernel::Kernel;
 use kernel::MAX_SEGMENTS;
@@ -35,24 +35,24 @@ pub struct Table {
     pub bad: bool,
 }
 
-// The answer of checks 18 to 20 and 14, and the kernel of an ELF image whose Multiboot header announces so much.
-pub fn judge(image: &[u8], announced: Announcement) -> Judged
-    ensures { λ r. ⌜ r ≡ withEntry (firstOf (elfChecks (now (image .entry)) (elfKernel (now (image .entry)) announced)) Answer.Load) (elfKernel (now (image .entry)) announced) ⌝ }
+// The answer of checks 18 to 20 and 14, and the kernel of an ELF image with this Multiboot header.
+pub fn judge(image: &[u8], found: FoundHeader) -> Judged
+    ensures { λ r. ⌜ r ≡ withEntry (firstOf (elfChecks (now (image .entry)) (elfKernel (now (image .entry)) found)) Answer.Load) (elfKernel (now (image .entry)) found) ⌝ }
 {
     let h = read::read_header(image);
     if !check::well_formed(h, image.len()) {
         return kernel::refused(Answer::BadElf);
     }
-    let table = read_table(image, h, announced);
-    let found = table.kernel;
-    let answer = check_table(found, table.bad);
-    kernel::judge_entry(answer, found)
+    let table = read_table(image, h, found);
+    let kernel = table.kernel;
+    let answer = check_table(kernel, table.bad);
+    kernel::judge_entry(answer, kernel)
 }
 
 // The table's segments, in table order, and whether a program header is bad.
-fn read_table(image: &[u8], h: ElfHeader, announced: Announcement) -> Table
+fn read_table(image: &[u8], h: ElfHeader, found: FoundHeader) -> Table
     requires { ⌜ HeaderRead (now image) h × (h .«e_phnum» ≤ maxSegments) ⌝ }
-    ensures { λ r. ⌜ r ≡ record { kernel = elfKernel (now (image .entry)) announced; bad = any (badNo (now (image .entry))) (h .«e_phnum») } ⌝ }
+    ensures { λ r. ⌜ r ≡ record { kernel = elfKernel (now (image .entry)) found; bad = any (badNo (now (image .entry))) (h .«e_phnum») } ⌝ }
 {
     let mut segments = [kernel::no_segment(); MAX_SEGMENTS];
     let mut count = 0;
@@ -67,13 +67,13 @@ fn read_table(image: &[u8], h: ElfHeader, announced: Announcement) -> Table
         bad = check::or_bad(bad, p, image.len());
         i += 1;
     }
-    let header = announced.header;
+    let header = found.offset;
     let entry = h.e_entry;
     Table {
         kernel: Kernel {
             header,
-            false_headers: announced.false_headers,
-            pages: announced.pages,
+            false_headers: found.false_headers,
+            pages: found.pages,
             entry,
             segments,
             count,
@@ -83,17 +83,17 @@ fn read_table(image: &[u8], h: ElfHeader, announced: Announcement) -> Table
 }
 
 // The first check that refuses a table with this kernel, where the header is well formed.
-fn check_table(found: Kernel, bad: bool) -> Answer
-    requires { ⌜ found .count ≤ maxSegments ⌝ }
-    ensures { λ r. ⌜ r ≡ firstOf (tableChecks found bad) Answer.Load ⌝ }
+fn check_table(kernel: Kernel, bad: bool) -> Answer
+    requires { ⌜ kernel .count ≤ maxSegments ⌝ }
+    ensures { λ r. ⌜ r ≡ firstOf (tableChecks kernel bad) Answer.Load ⌝ }
 {
-    if found.count == 0 {
+    if kernel.count == 0 {
         return Answer::BadElf;
     }
     if bad {
         return Answer::BadProgramHeader;
     }
-    if kernel::extents_overlap(found) {
+    if kernel::extents_overlap(kernel) {
         return Answer::SegmentsOverlap;
     }
     Answer::Load

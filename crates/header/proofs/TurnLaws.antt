@@ -19,13 +19,13 @@ use Rattle.number.specs.Number.{numberAt}
 use Rattle.header.specs.declared.Search.the-variants.{At, Nothing}
 use Rattle.header.specs.declared.Searched.{Searched}
 use Rattle.header.specs.Header.{headerMagic, searchLimit, shortHeader, sumIsZero, words, isHeader, headerFrom, header}
-use Rattle.header.specs.FalseHeader.{falseHeaderAt, falsePlace, falseHeaders, searched}
+use Rattle.header.specs.FalseHeader.{isFalseHeaderAt, isFalsePlace, falseHeaders, searched}
 use Rattle.header.specs.FalseHeaderLaws.{false-here, no-magic, no-room}
 use Rattle.header.specs.WalkLaws.{found-at, passed-at, none-left, whole-image}
 
 -- how many of the first n places have a false header
 abbrev falseAmong : List ℕ → ℕ → ℕ
-falseAmong s n = length (passing (falsePlace s) n)
+falseAmong s n = length (passing (isFalsePlace s) n)
 
 -- the search has come to the offset `at`: it finds from there on what it finds from the start, and has passed so many false headers
 pub record Passed (s : List ℕ) (at passed : ℕ) : Type 0 where
@@ -40,7 +40,7 @@ passed-start s = record { inside = omega arith; multiple = refl; ahead = refl; c
 
 module _ {s : List ℕ} {at passed : ℕ} (p : Passed s at passed) (short : length s ≤ searchLimit) where
   pub passed-few : passed ≤ 2048
-  passed-few = omega (arith, p .count, passing-most (falsePlace s) (at / 4), p .inside)
+  passed-few = omega (arith, p .count, passing-most (isFalsePlace s) (at / 4), p .inside)
 
   header-is : header s ≡ headerFrom at (words (drop at s))
   header-is = sym (whole-image s short) ∙ p .ahead
@@ -50,7 +50,7 @@ module _ {s : List ℕ} {at passed : ℕ} (p : Passed s at passed) (short : leng
   unfolding falseHeaders
   passed-all l =
       let e : header s ≡ Nothing = header-is ∙ none-left at (drop at s) (simp length-drop (omega (arith, p .inside))) in
-      let f = passing-past (falsePlace s) (at / 4) 2048 (omega (arith, p .inside)) (λ k m. no-room s (4 * k) (omega (arith, p .multiple))) in
+      let f = passing-past (isFalsePlace s) (at / 4) 2048 (omega (arith, p .inside)) (λ k m. no-room s (4 * k) (omega (arith, p .multiple))) in
       rw (e, f, p .count)
 
   module _ (room : at + shortHeader ≤ length s) where
@@ -66,21 +66,21 @@ module _ {s : List ℕ} {at passed : ℕ} (p : Passed s at passed) (short : leng
         }
 
     -- the test of this place
-    test-is : falsePlace s (at / 4) ≡ falseHeaderAt s at
-    test-is = ap (falseHeaderAt s) (omega (arith, p .multiple))
+    test-is : isFalsePlace s (at / 4) ≡ isFalseHeaderAt s at
+    test-is = ap (isFalseHeaderAt s) (omega (arith, p .multiple))
 
     pub passed-other : eqb (numberAt 4 s at) headerMagic ≡ false → Passed s (at + 4) passed
     unfolding isHeader
     passed-other e =
-        let t = passing-left (falsePlace s) (at / 4) (test-is ∙ no-magic s at e) in
+        let t = passing-left (isFalsePlace s) (at / 4) (test-is ∙ no-magic s at e) in
         next passed (p .count ∙ ap length (sym t)) (and-fails-left _ _ e)
 
     module _ (e : eqb (numberAt 4 s at) headerMagic ≡ true) where
       pub passed-false : sumIsZero (numberAt 4 s at) (numberAt 4 s (at + 4)) (numberAt 4 s (at + 8)) ≡ false → Passed s (at + 4) (passed + 1)
       unfolding isHeader
       passed-false w =
-          let t = passing-taken (falsePlace s) (at / 4) (test-is ∙ false-here s at room (omega arith) e w) in
-          let n = length-append (passing (falsePlace s) (at / 4)) (at / 4 ∷ []) in
+          let t = passing-taken (isFalsePlace s) (at / 4) (test-is ∙ false-here s at room (omega arith) e w) in
+          let n = length-append (passing (isFalsePlace s) (at / 4)) (at / 4 ∷ []) in
           next (passed + 1) (rw t (omega (arith, p .count, n))) (and-fails-right (eqb (numberAt 4 s at) headerMagic) _ w)
 
       -- a header stands here

@@ -1,5 +1,5 @@
 -- The false headers of an image.                                                       rule: HEADER
---     isFalseHeader, falseHeaderAt, falsePlace    the magic with a wrong sum
+--     isFalseHeader, isFalseHeaderAt, isFalsePlace    the magic with a wrong sum
 --     placesPassed, falseHeaders                  how many the search passes over, offset by offset
 --     searched                                    what the search answers: the header, and that count
 -- What a false header is in propositions stands in HeaderAt, and that so many are counted in FalseHeaderLaws.
@@ -21,15 +21,15 @@ unfoldable pub isFalseHeader : ℕ → ℕ → ℕ → Bool
 isFalseHeader m flags checksum = eqb m headerMagic && not (sumIsZero m flags checksum)
 
 -- such words stand at the offset o, with room for 12 bytes inside both the image and its first 8,192 bytes
-unfoldable pub falseHeaderAt : List ℕ → ℕ → Bool
-falseHeaderAt image o =
+unfoldable pub isFalseHeaderAt : List ℕ → ℕ → Bool
+isFalseHeaderAt image o =
     leb (o + shortHeader) (length image)
     && leb (o + shortHeader) searchLimit
     && isFalseHeader (numberAt 4 image o) (numberAt 4 image (o + 4)) (numberAt 4 image (o + 8))
 
 -- the multiples of 4 are places: place k is the offset 4k
-abbrev pub falsePlace : List ℕ → ℕ → Bool
-falsePlace image k = falseHeaderAt image (4 * k)
+abbrev pub isFalsePlace : List ℕ → ℕ → Bool
+isFalsePlace image k = isFalseHeaderAt image (4 * k)
 
 -- how many places lie below the header found, or in the searched part where there is none
 abbrev pub placesPassed : Search → ℕ
@@ -38,7 +38,7 @@ placesPassed (At o) = o .0 / 4
 
 -- how many of them have a false header
 unfoldable pub falseHeaders : List ℕ → ℕ
-falseHeaders image = length (passing (falsePlace image) (placesPassed (header image)))
+falseHeaders image = length (passing (isFalsePlace image) (placesPassed (header image)))
 
 abbrev pub searched : List ℕ → Searched
 searched image = record { header = header image; «false_headers» = falseHeaders image }

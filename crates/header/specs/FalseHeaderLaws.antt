@@ -1,6 +1,6 @@
 -- How many false headers the search passes over, in propositions.
 --     false-here, no-magic, no-room    the test at an offset
---     false-below, false-anywhere      so many numbers k have a false header at 4k: below the header found, or where there is none
+--     false-below, false-anywhere      so many numbers k have a false header at 4k: below the header found, or in the searched part
 --     false-most                       at most 2,046
 --     searched-part                    what stands behind the searched part has no share in the answer
 -- Assumes nothing.
@@ -24,7 +24,7 @@ use Rattle.address.specs.declared.ImageOffset.{ImageOffset}
 use Rattle.header.specs.declared.Search.{Search}
 use Rattle.header.specs.declared.Search.the-variants.{At, Nothing}
 use Rattle.header.specs.Header.{headerMagic, searchLimit, shortHeader, sumIsZero, words, headerFrom, header}
-use Rattle.header.specs.FalseHeader.{isFalseHeader, falseHeaderAt, falsePlace, placesPassed, falseHeaders, searched}
+use Rattle.header.specs.FalseHeader.{isFalseHeader, isFalseHeaderAt, isFalsePlace, placesPassed, falseHeaders, searched}
 use Rattle.header.specs.HeaderAt.{FalseHeaderAt}
 use Rattle.header.specs.HeaderLaws.{word-take}
 
@@ -43,8 +43,8 @@ module _ (image : List ℕ) (o : ℕ) where
   zero = sumIsZero (numberAt 4 image o) (numberAt 4 image (o + 4)) (numberAt 4 image (o + 8))
 
   -- it says what the proposition says
-  false-is : o % 4 ≡ 0 → (falseHeaderAt image o ≡ true) ↔ FalseHeaderAt image o
-  unfolding falseHeaderAt isFalseHeader
+  false-is : o % 4 ≡ 0 → (isFalseHeaderAt image o ≡ true) ↔ FalseHeaderAt image o
+  unfolding isFalseHeaderAt isFalseHeader
   false-is z =
       let place = and-is room early (leb-true _ _, le-leb _ _) (leb-true _ _, le-leb _ _) in
       let words = and-is marked (not zero) (eqb-is _ _) (not-is zero (eqb-is _ _)) in
@@ -53,20 +53,20 @@ module _ (image : List ℕ) (o : ℕ) where
         λ h. is .1 ((h .whole, h .early), (h .marked, h .sum)),
       )
 
-  pub false-here : o + shortHeader ≤ length image → o + shortHeader ≤ searchLimit → marked ≡ true → zero ≡ false → falseHeaderAt image o ≡ true
-  unfolding falseHeaderAt isFalseHeader
+  pub false-here : o + shortHeader ≤ length image → o + shortHeader ≤ searchLimit → marked ≡ true → zero ≡ false → isFalseHeaderAt image o ≡ true
+  unfolding isFalseHeaderAt isFalseHeader
   false-here l m e f = and-both (room && early) (marked && not zero) (and-both room early (le-leb _ _ l) (le-leb _ _ m)) (and-both marked (not zero) e (not-to-true zero f))
 
-  pub no-magic : marked ≡ false → falseHeaderAt image o ≡ false
-  unfolding falseHeaderAt isFalseHeader
+  pub no-magic : marked ≡ false → isFalseHeaderAt image o ≡ false
+  unfolding isFalseHeaderAt isFalseHeader
   no-magic e = and-fails-right (room && early) (marked && not zero) (and-fails-left marked (not zero) e)
 
-  pub no-room : length image < o + shortHeader → falseHeaderAt image o ≡ false
-  unfolding falseHeaderAt isFalseHeader
+  pub no-room : length image < o + shortHeader → isFalseHeaderAt image o ≡ false
+  unfolding isFalseHeaderAt isFalseHeader
   no-room l = and-fails-left (room && early) (marked && not zero) (and-fails-left room early (lt-leb _ _ l))
 
-  too-late : searchLimit < o + shortHeader → falseHeaderAt image o ≡ false
-  unfolding falseHeaderAt isFalseHeader
+  too-late : searchLimit < o + shortHeader → isFalseHeaderAt image o ≡ false
+  unfolding isFalseHeaderAt isFalseHeader
   too-late l = and-fails-left (room && early) (marked && not zero) (and-fails-right room early (lt-leb _ _ l))
 
 -- so many numbers k have a false header at 4k
@@ -76,7 +76,7 @@ module _ (image : List ℕ) where
 
   counted : (r : Search) → header image ≡ r → HowMany FalsePlace (placesPassed r) (falseHeaders image)
   unfolding falseHeaders
-  counted r e = rw e (passing-how-many (falsePlace image) FalsePlace (placesPassed r) (λ k. false-is image (4 * k) (omega arith)))
+  counted r e = rw e (passing-how-many (isFalsePlace image) FalsePlace (placesPassed r) (λ k. false-is image (4 * k) (omega arith)))
 
   -- below the header found
   pub false-below : (o : ImageOffset) → header image ≡ At o → HowMany FalsePlace (o .0 / 4) (falseHeaders image)
@@ -91,8 +91,8 @@ module _ (image : List ℕ) where
   false-most =
       let n = placesPassed (header image) in
       ⊎-elim
-      (λ (l : n < 2046). omega (arith, passing-most (falsePlace image) n))
-      (λ (l : 2046 ≤ n). rw (passing-past (falsePlace image) 2046 n l (λ k m. too-late image (4 * k) (omega arith))) (passing-most (falsePlace image) 2046))
+      (λ (l : n < 2046). omega (arith, passing-most (isFalsePlace image) n))
+      (λ (l : 2046 ≤ n). rw (passing-past (isFalsePlace image) 2046 n l (λ k m. too-late image (4 * k) (omega arith))) (passing-most (isFalsePlace image) 2046))
       (lt-or-le n 2046)
 
 -- the searched part of an image
@@ -107,8 +107,8 @@ module _ (image : List ℕ) where
   part-short = simp length-take (omega arith)
 
   -- it has the false headers of the image
-  false-same : (o : ℕ) → falseHeaderAt part o ≡ falseHeaderAt image o
-  unfolding falseHeaderAt
+  false-same : (o : ℕ) → isFalseHeaderAt part o ≡ isFalseHeaderAt image o
+  unfolding isFalseHeaderAt
   false-same o =
       ⊎-elim
       (λ (l : searchLimit < o + shortHeader). too-late part o l ∙ sym (too-late image o l))
@@ -126,4 +126,4 @@ module _ (image : List ℕ) where
 
   pub searched-part : searched part ≡ searched image
   unfolding falseHeaders
-  searched-part = rw (header-same, passing-same (falsePlace part) (falsePlace image) (λ k. false-same (4 * k)) (placesPassed (header image)))
+  searched-part = rw (header-same, passing-same (isFalsePlace part) (isFalsePlace image) (λ k. false-same (4 * k)) (placesPassed (header image)))

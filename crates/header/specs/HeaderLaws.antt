@@ -1,5 +1,5 @@
 -- What the header search answers, in propositions.
---     HeaderAt                        a header stands at an offset of the image
+--     word-take                       a word of the first bytes
 --     header-lowest, lowest-header    the search finds o exactly where o is the lowest offset of a header
 --     header-none, none-header        it finds nothing exactly where there is no header
 -- Assumes nothing.

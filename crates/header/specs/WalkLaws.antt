@@ -1,5 +1,6 @@
 -- Laws of the header search, step by step.
 --     words-two, words-three            the first words of a list
+--     length-words                      how many words there are at most
 --     found-at, passed-at, none-left    a header at a place, none there, and too few bytes left
 --     whole-image                       a short image is searched whole
 --     by-sum                            the sum of three words
@@ -70,7 +71,7 @@ length-words (a ∷ b ∷ []) = omega arith
 length-words (a ∷ b ∷ c ∷ []) = omega arith
 length-words (a ∷ b ∷ c ∷ d ∷ s) = omega (arith, length-words s)
 
-pub too-few : (at : ℕ) (ws : List ℕ) → length ws < 3 → headerFrom at ws ≡ Nothing
+too-few : (at : ℕ) (ws : List ℕ) → length ws < 3 → headerFrom at ws ≡ Nothing
 unfolding headerFrom
 too-few at [] h = refl
 too-few at (m ∷ []) h = refl

@@ -51,7 +51,7 @@ fn sums_to_zero(s: &[u8], at: usize) -> bool
     sum == 0
 }
 
-// The lowest header in the bytes of a searched part, and how many false headers stand before it.
+// The lowest header in the bytes of a searched part, and how many false headers stand below it.
 fn first_header(s: &[u8]) -> Searched
     requires { ⌜ length (now s) ≤ searchLimit ⌝ }
     ensures { λ r. ⌜ r ≡ searched (now (s .entry)) ⌝ }

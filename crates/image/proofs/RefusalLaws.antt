@@ -2,7 +2,7 @@
 --     no-header, unknown-request, undefined-bits, unknown-kind
 --                               checks 6, 7, 25 and 8
 --     kind-judged               the checks on the kind and on the entry are left
---     announced-is              what the header announces
+--     found-is                  the header found, by its parts
 --     by-elf, by-address        the kind is chosen by the flags
 --     cut-off, before-image     checks 9 and 10
 --     load-inside, load-left    the load begins inside the image, and the checks on it are left
@@ -26,7 +26,7 @@ use Rattle.header.specs.declared.Search.{Search}
 use Rattle.header.specs.declared.Search.the-variants.{At, Nothing}
 use Rattle.header.specs.Header.{header}
 use Rattle.header.specs.FalseHeader.{falseHeaders}
-use Rattle.kernel.specs.declared.Announcement.{Announcement}
+use Rattle.kernel.specs.declared.FoundHeader.{FoundHeader}
 use Rattle.kernel.specs.Kernel.{maxSegments, kernelWith}
 use Rattle.kernel.specs.Checks.{entryChecks}
 use Rattle.kernel.specs.Judge.{refused, withKernel, withEntry}
@@ -35,7 +35,7 @@ use Rattle.elf.specs.Checks.{elfChecks}
 use Rattle.image.specs.declared.load.AddressFields.{AddressFields}
 use Rattle.image.specs.Load.{flagsAt, fieldsAt, onPages, loadOffset, loadLength}
 use Rattle.image.specs.Narrow.{Narrow}
-use Rattle.image.specs.Judged.{unknownRequest, undefinedBits, noAddresses, unknownKind, cutOff, beforeImage, headerFlags, announcement, isAddressed, headerChecks, loadChecks, fieldChecks, kindChecks, imageChecks, kernelFor, fieldsKernel, kernelOf}
+use Rattle.image.specs.Judged.{unknownRequest, undefinedBits, noAddresses, unknownKind, cutOff, beforeImage, headerFlags, foundHeader, isAddressed, headerChecks, loadChecks, fieldChecks, kindChecks, imageChecks, kernelFor, fieldsKernel, kernelOf}
 use Rattle.image.specs.Judge.{judged}
 use Rattle.image.specs.LoadLaws.{offset-inside}
 use Rattle.image.specs.JudgedLaws.{header-refuses, front-refuses, kind-fields, kind-elf, kernel-fields, kernel-elf}
@@ -97,16 +97,16 @@ module _ {image : List ℕ} {at : ImageOffset} {flags : ℕ} (r : FlagsFound ima
       image-chain image ∙ rw (← h, or-else-second Load (firstOf (kindChecks image) Load) refl) refl in
       rw q
 
-  -- what the header announces, by what was found and read
-  pub announced-is : (n : ℕ) (pages : Bool) → n ≡ falseHeaders image → pages ≡ onPages flags → _≡_ {A = Announcement} (record { header = at; «false_headers» = n; pages = pages }) (announcement image)
-  announced-is n pages c p = rw (r .found, c, p, r .read)
+  -- the header found, by its parts
+  pub found-is : (n : ℕ) (pages : Bool) → n ≡ falseHeaders image → pages ≡ onPages flags → _≡_ {A = FoundHeader} (record { offset = at; «false_headers» = n; pages = pages }) (foundHeader image)
+  found-is n pages c p = rw (r .found, c, p, r .read)
 
   -- the flags that were read choose the kind
   flags-are : headerFlags image ≡ flags
   flags-are = rw (r .found, r .read)
 
-  pub by-elf : (announced : Announcement) → announced ≡ announcement image → noAddresses flags ≡ true → withEntry (firstOf (elfChecks image (elfKernel image announced)) Load) (elfKernel image announced) ≡ withEntry (firstOf (kindChecks image) Load) (kernelOf image)
-  by-elf announced e t =
+  pub by-elf : (found : FoundHeader) → found ≡ foundHeader image → noAddresses flags ≡ true → withEntry (firstOf (elfChecks image (elfKernel image found)) Load) (elfKernel image found) ≡ withEntry (firstOf (kindChecks image) Load) (kernelOf image)
+  by-elf found e t =
       let a : isAddressed image ≡ false = not-to-false (noAddresses (headerFlags image)) (rw flags-are t) in
       rw (kind-elf image a, kernel-elf image a, e)
 
@@ -142,10 +142,10 @@ module _ {image : List ℕ} {at : ImageOffset} {h : AddressFields} (w : WholeHea
       let q = chosen-one (beforeImage h (at .0)) r (record { 0 = loadOffset h (at .0) }) o offset one in
       omega (arith, q .1, offset-inside h (at .0) (length image) (w .whole))
 
-  pub load-left : (o : ImageOffset) (announced : Announcement) → r ≡ At o → announced ≡ announcement image
-      → withEntry (firstOf (loadChecks h (o .0) (loadLength h (o .0) (length image)) (length image)) Load) (kernelFor h announced (o .0) (loadLength h (o .0) (length image))) ≡ withEntry (firstOf (fieldChecks image) Load) (fieldsKernel image)
+  pub load-left : (o : ImageOffset) (found : FoundHeader) → r ≡ At o → found ≡ foundHeader image
+      → withEntry (firstOf (loadChecks h (o .0) (loadLength h (o .0) (length image)) (length image)) Load) (kernelFor h found (o .0) (loadLength h (o .0) (length image))) ≡ withEntry (firstOf (fieldChecks image) Load) (fieldsKernel image)
   unfolding fieldChecks fieldsKernel
-  load-left o announced one p =
+  load-left o found one p =
       let t : beforeImage h (at .0) ≡ false = chosen-one _ r _ o offset one .0 in
       let q : o .0 ≡ loadOffset h (at .0) = chosen-one (beforeImage h (at .0)) r (record { 0 = loadOffset h (at .0) }) o offset one .1 in
       let go : firstOf (fieldChecks image) Load ≡ firstOf (loadChecks h (o .0) (loadLength h (o .0) (length image)) (length image)) Load =
@@ -162,6 +162,6 @@ module _ (h : AddressFields) (offset n : ℕ) (narrow : Narrow h) (fits : n < 2 
   length-fits = by-end (eqb (h .«load_end_addr» .0) 0) refl
 
 -- one segment is no more than there may be
-pub one-few : (h : AddressFields) (announced : Announcement) (offset len : ℕ) → kernelFor h announced offset len .count ≤ maxSegments
+pub one-few : (h : AddressFields) (found : FoundHeader) (offset len : ℕ) → kernelFor h found offset len .count ≤ maxSegments
 unfolding kernelFor kernelWith
-one-few h announced offset len = omega arith
+one-few h found offset len = omega arith

@@ -4,7 +4,7 @@
 --                                            the conditions of 7, 25 and 8
 --     cutOff, beforeImage, pastImage, bssBelow
 --                                            the conditions of 9 to 13
---     headerOffset, headerFlags, announcement, headerFields, firstLoaded, countLoaded
+--     headerOffset, headerFlags, foundHeader, headerFields, firstLoaded, countLoaded
 --                                            what an image's header says
 --     segmentFor, kernelFor, fieldsKernel    the kernel of an image with address fields
 --     isAddressed, kernelOf                  the kernel that an image asks for, by either kind
@@ -25,7 +25,7 @@ use Rattle.header.specs.declared.Search.the-variants.{At, Nothing}
 use Rattle.header.specs.Header.{searchLimit, header}
 use Rattle.header.specs.FalseHeader.{falseHeaders}
 use Rattle.kernel.specs.declared.Segment.{Segment}
-use Rattle.kernel.specs.declared.Announcement.{Announcement}
+use Rattle.kernel.specs.declared.FoundHeader.{FoundHeader}
 use Rattle.kernel.specs.declared.Kernel.{Kernel}
 use Rattle.kernel.specs.Kernel.{kernelWith}
 use Rattle.kernel.specs.Checks.{entryChecks}
@@ -84,8 +84,8 @@ headerOffset image = offsetOf (header image)
 abbrev pub headerFlags : List ℕ → ℕ
 headerFlags image = flagsAt image (headerOffset image)
 
-abbrev pub announcement : List ℕ → Announcement
-announcement image = record { header = record { 0 = headerOffset image }; «false_headers» = falseHeaders image; pages = onPages (headerFlags image) }
+abbrev pub foundHeader : List ℕ → FoundHeader
+foundHeader image = record { offset = record { 0 = headerOffset image }; «false_headers» = falseHeaders image; pages = onPages (headerFlags image) }
 
 abbrev pub headerFields : List ℕ → AddressFields
 headerFields image = fieldsAt image (headerOffset image)
@@ -101,12 +101,12 @@ abbrev pub segmentFor : AddressFields → ℕ → ℕ → Segment
 segmentFor h offset len =
     record { start = h .«load_addr»; «load_end» = record { 0 = loadEnd h len }; «extent_end» = record { 0 = extentEnd h len }; offset = record { 0 = offset } }
 
--- the kernel of a header that announces so much: one segment
-unfoldable pub kernelFor : AddressFields → Announcement → ℕ → ℕ → Kernel
-kernelFor h announced offset len = kernelWith announced (h .«entry_addr») (segmentFor h offset len ∷ [])
+-- the kernel of the header found: one segment
+unfoldable pub kernelFor : AddressFields → FoundHeader → ℕ → ℕ → Kernel
+kernelFor h found offset len = kernelWith found (h .«entry_addr») (segmentFor h offset len ∷ [])
 
 unfoldable pub fieldsKernel : List ℕ → Kernel
-fieldsKernel image = kernelFor (headerFields image) (announcement image) (firstLoaded image) (countLoaded image)
+fieldsKernel image = kernelFor (headerFields image) (foundHeader image) (firstLoaded image) (countLoaded image)
 
 -- flag bit 16 decides between address fields and ELF, also in an ELF image
 abbrev pub isAddressed : List ℕ → Bool
@@ -114,7 +114,7 @@ isAddressed image = not (noAddresses (headerFlags image))
 
 -- the kernel that an image asks for
 unfoldable pub kernelOf : List ℕ → Kernel
-kernelOf image = cond (isAddressed image) (fieldsKernel image) (elfKernel image (announcement image))
+kernelOf image = cond (isAddressed image) (fieldsKernel image) (elfKernel image (foundHeader image))
 
 -- the checks on the header: 6, 7, 25 and 8
 unfoldable pub headerChecks : List ℕ → List (Check Answer)
@@ -143,7 +143,7 @@ fieldChecks image =
 unfoldable pub kindChecks : List ℕ → List (Check Answer)
 kindChecks image =
     onlyIf (isAddressed image) (fieldChecks image)
-    ++ onlyIf (not (isAddressed image)) (elfChecks image (elfKernel image (announcement image)))
+    ++ onlyIf (not (isAddressed image)) (elfChecks image (elfKernel image (foundHeader image)))
 
 -- all of them, in order
 unfoldable pub imageChecks : List ℕ → List (Check Answer)

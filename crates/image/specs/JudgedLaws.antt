@@ -45,7 +45,7 @@ use Rattle.elf.specs.GoodElf.{SegmentAt}
 use Rattle.elf.specs.ElfLaws.{tabled, entry-is, elf-passed}
 use Rattle.image.specs.declared.load.AddressFields.{AddressFields}
 use Rattle.image.specs.Load.{flagsAt, fieldsAt, onPages, loadLength, loadEnd}
-use Rattle.image.specs.Judged.{noHeader, offsetOf, headerOffset, headerFlags, announcement, headerFields, firstLoaded, countLoaded, undefinedBits, cutOff, beforeImage, pastImage, isAddressed, segmentFor, kernelFor, fieldsKernel, kernelOf, headerChecks, loadChecks, fieldChecks, kindChecks, imageChecks}
+use Rattle.image.specs.Judged.{noHeader, offsetOf, headerOffset, headerFlags, foundHeader, headerFields, firstLoaded, countLoaded, undefinedBits, cutOff, beforeImage, pastImage, isAddressed, segmentFor, kernelFor, fieldsKernel, kernelOf, headerChecks, loadChecks, fieldChecks, kindChecks, imageChecks}
 use Rattle.image.specs.LoadLaws.{offset-inside}
 use Rattle.image.specs.Judge.{judged}
 use Rattle.image.specs.Calculated.{Announced, Calculated}
@@ -88,7 +88,7 @@ high-sum f k l m e =
 -- the flags choose between the checks on address fields and those on ELF, and between the kernels
 module _ (image : List ℕ) where
   abbrev elfIn : Kernel
-  elfIn = elfKernel image (announcement image)
+  elfIn = elfKernel image (foundHeader image)
 
   module _ (a : isAddressed image ≡ true) where
     pub kind-fields : firstOf (kindChecks image) Load ≡ firstOf (fieldChecks image) Load
@@ -209,7 +209,7 @@ fields-entry-is image a = rw (kernel-fields image a) (one-entry-is image)
 
 pub elf-entry-is : (image : List ℕ) → isAddressed image ≡ false
     → (entryOutside (kernelOf image) ≡ true) ↔ ((i : ℕ) → SegmentAt image i → (programHeaderNo image i .«p_paddr» .0 ≤ elfHeader image .«e_entry» .0) × (elfHeader image .«e_entry» .0 < programHeaderNo image i .«p_paddr» .0 + programHeaderNo image i .«p_filesz») → ⊥)
-elf-entry-is image a = rw (kernel-elf image a) (entry-is image (announcement image))
+elf-entry-is image a = rw (kernel-elf image a) (entry-is image (foundHeader image))
 
 module _ (image : List ℕ) (e : firstOf (imageChecks image) Load ≡ Load) where
   -- by address fields
@@ -246,7 +246,7 @@ module _ (image : List ℕ) (e : firstOf (imageChecks image) Load ≡ Load) wher
           early = header-lowest image (fieldsKernel image .header) f .0 .early;
           pages = refl;
           few = omega arith;
-          rest = kernel-past (announcement image) (headerFields image .«entry_addr») (segmentFor (headerFields image) (firstLoaded image) (countLoaded image) ∷ []);
+          rest = kernel-past (foundHeader image) (headerFields image .«entry_addr») (segmentFor (headerFields image) (firstLoaded image) (countLoaded image) ∷ []);
           segments = one-segment;
           apart = λ i j l m. absurd (omega arith);
           entered = entry-in;
@@ -274,8 +274,8 @@ module _ (image : List ℕ) (e : firstOf (imageChecks image) Load ≡ Load) wher
     unfolding elfKernel kernelWith
     elf-good =
         let f = there (header image) (image-passed image e .found) in
-        let p = elf-passed image (announcement image) (sym (kind-elf image a) ∙ image-passed image e .kind) in
-        let t = tabled image (announcement image) in
+        let p = elf-passed image (foundHeader image) (sym (kind-elf image a) ∙ image-passed image e .kind) in
+        let t = tabled image (foundHeader image) in
         record {
           found = f;
           counted = refl;
@@ -315,4 +315,4 @@ module _ (image : List ℕ) (e : firstOf (imageChecks image) Load ≡ Load) wher
   listed b =
       let z : headerFlags image / 2 ^ 16 % 2 ≡ 0 = omega (arith, kind-is) in
       let a : isAddressed image ≡ false = not-to-false _ (eq-eqb _ 0 z) in
-      subst (Tabled image) (sym (kernel-elf image a)) (tabled image (announcement image))
+      subst (Tabled image) (sym (kernel-elf image a)) (tabled image (foundHeader image))

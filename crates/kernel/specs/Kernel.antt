@@ -10,7 +10,7 @@ use lib.ListN.{length, getD, replicate}
 use Rattle.address.specs.declared.PhysAddr.{PhysAddr}
 use Rattle.address.specs.declared.Span.{Span}
 use Rattle.kernel.specs.declared.Segment.{Segment}
-use Rattle.kernel.specs.declared.Announcement.{Announcement}
+use Rattle.kernel.specs.declared.FoundHeader.{FoundHeader}
 use Rattle.kernel.specs.declared.Kernel.{Kernel}
 
 -- at most so many segments
@@ -27,13 +27,13 @@ noKernel = record { header = record { 0 = 0 }; «false_headers» = 0; pages = fa
 abbrev pub placesOf : List Segment → List Segment
 placesOf ss = ss ++ replicate (maxSegments - length ss) noSegment
 
--- the kernel of a header that announces so much, with its entry and these segments
-unfoldable pub kernelWith : Announcement → PhysAddr → List Segment → Kernel
-kernelWith announced entry ss =
+-- the kernel of the header found, with its entry and these segments
+unfoldable pub kernelWith : FoundHeader → PhysAddr → List Segment → Kernel
+kernelWith found entry ss =
     record {
-      header = announced .header;
-      «false_headers» = announced .«false_headers»;
-      pages = announced .pages;
+      header = found .offset;
+      «false_headers» = found .«false_headers»;
+      pages = found .pages;
       entry = entry;
       segments = placesOf ss;
       count = length ss;

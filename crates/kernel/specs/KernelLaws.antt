@@ -13,7 +13,7 @@ use lib.Seq.{set-at}
 use Rattle.laws.specs.TableLaws.{replicate-at}
 use Rattle.address.specs.declared.PhysAddr.{PhysAddr}
 use Rattle.kernel.specs.declared.Segment.{Segment}
-use Rattle.kernel.specs.declared.Announcement.{Announcement}
+use Rattle.kernel.specs.declared.FoundHeader.{FoundHeader}
 use Rattle.kernel.specs.Kernel.{maxSegments, noSegment, placesOf, kernelWith, segmentNo}
 
 padded-at : (ss : List Segment) (n i : ℕ) → getD (ss ++ replicate n noSegment) i noSegment ≡ getD ss i noSegment
@@ -35,12 +35,12 @@ places-more ss s l =
     let f : maxSegments - length (ss ++ (s ∷ [])) ≡ maxSegments - suc (length ss) = omega (arith, length-append ss (s ∷ [])) in
     rw (e, f, append-assoc) (set-at ss noSegment (replicate (maxSegments - suc (length ss)) noSegment) s (length ss) refl)
 
-module _ (announced : Announcement) (entry : PhysAddr) (ss : List Segment) where
-  pub kernel-at : (i : ℕ) → segmentNo (kernelWith announced entry ss) i ≡ getD ss i noSegment
+module _ (found : FoundHeader) (entry : PhysAddr) (ss : List Segment) where
+  pub kernel-at : (i : ℕ) → segmentNo (kernelWith found entry ss) i ≡ getD ss i noSegment
   unfolding kernelWith
   kernel-at i = places-at ss i
 
-  pub kernel-past : (i : ℕ) → length ss ≤ i → segmentNo (kernelWith announced entry ss) i ≡ noSegment
+  pub kernel-past : (i : ℕ) → length ss ≤ i → segmentNo (kernelWith found entry ss) i ≡ noSegment
   kernel-past i l = kernel-at i ∙ past-end ss i l
 
 -- the load bytes come first and stand in the image, and there is an address

@@ -21,15 +21,16 @@ pub struct Segment {
     pub offset: ImageOffset,
 }
 
-// What a header announces, whatever kind of image it stands in: where it stands, how many false headers stand before it, and
-// whether modules lie on pages.
-pub struct Announcement {
-    pub header: ImageOffset,
+// The header found in an image of either kind: where it stands, how many false headers stand below it, and whether modules
+// lie on pages.
+pub struct FoundHeader {
+    pub offset: ImageOffset,
     pub false_headers: u32,
     pub pages: bool,
 }
 
-// What an image asks for: what its header announces, the entry, and its segments; past the last segment the entries are zero.
+// What an image asks for: its header, whether modules lie on pages, the entry, and its segments; past the last segment the
+// entries are zero.
 pub struct Kernel {
     pub header: ImageOffset,
     pub false_headers: u32,

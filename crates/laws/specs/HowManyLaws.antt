@@ -19,7 +19,7 @@ passing-how-many f P n is =
     record {
       number = λ i. getD (passing f n) i 0;
       has = λ i l. let r = passing-at f n i l in (r .0, is (getD (passing f n) i 0) .0 (r .1));
-      rising = passing-rising f n;
+      rising = λ i j l m. omega (arith, passing-rising f n i j l m);
       every = λ k l p. passing-every f n k l (is k .1 p);
     }
 

@@ -3,6 +3,7 @@
 --     conditions                what these conditions say
 --     answered                  for all that is lent
 --     number-load, load-plan    the number 0 is a load, and gives its plan
+--     room-item, header-item    what the items of 16 and 6 are
 -- Assumes nothing.
 use mathlib.Core.Path.{_≡_, refl, sym, ap, subst, _∙_}
 use mathlib.Core.Bool.{Bool, true, false, not, false≢true, _&&_, _||_}
@@ -45,7 +46,7 @@ use Rattle.elf.specs.ElfLaws.{elf-good-is, headers-good-is, segments-apart-is}
 use Rattle.kernel.specs.declared.Kernel.{Kernel}
 use Rattle.kernel.specs.Checks.{entryChecks, extentsOverlap}
 use Rattle.image.specs.Load.{flagsAt, fieldsAt, loadOffset, loadLength, loadEnd, fullHeader}
-use Rattle.image.specs.Judged.{noHeader, offsetOf, unknownRequest, undefinedBits, noAddresses, unknownKind, cutOff, beforeImage, pastImage, bssBelow, headerOffset, headerFlags, announcement, isAddressed, headerChecks, loadChecks, fieldChecks, kindChecks, imageChecks}
+use Rattle.image.specs.Judged.{noHeader, offsetOf, unknownRequest, undefinedBits, noAddresses, unknownKind, cutOff, beforeImage, pastImage, bssBelow, headerOffset, headerFlags, foundHeader, isAddressed, headerChecks, loadChecks, fieldChecks, kindChecks, imageChecks}
 use Rattle.image.specs.JudgedLaws.{fields-entry-is, elf-entry-is}
 use Rattle.memory_map.specs.Map.{badMap, mapChecks}
 use Rattle.memory_map.specs.PairsLaws.{map-good-is}
@@ -145,19 +146,19 @@ module _ (x : Lent) where
   -- where it is clear the table of an ELF image does
   module _ (a : isAddressed (imageIn x) ≡ false) where
     abbrev elfIn : Kernel
-    elfIn = elfKernel (imageIn x) (announcement (imageIn x))
+    elfIn = elfKernel (imageIn x) (foundHeader (imageIn x))
 
     at-elf : OfElf (imageIn x) (holdsIn x)
     unfolding appliesFor onlyIf checks lentChecks submissionChecks operatorChecks windowChecks mapChecks headerChecks loadChecks fieldChecks kindChecks entryChecks elfChecks imageChecks kernelChecks roomChecks
     at-elf =
         let image = imageIn x in
-        let announced = announcement image in
+        let found = foundHeader image in
         let none = not-to-true (isAddressed image) a in
         let P : ℕ → Type 0 = λ k. holdsIn x k ≡ false in
         record {
-          c18 = rw none (false-is (not (wellFormed (elfHeader image) (length image)) || eqb (elfIn .count) 0) (elf-good-is image announced));
+          c18 = rw none (false-is (not (wellFormed (elfHeader image) (length image)) || eqb (elfIn .count) 0) (elf-good-is image found));
           c19 = rw none (false-is (any (badNo image) (elfHeader image .«e_phnum»)) (headers-good-is image));
-          c20 = rw none (false-is (extentsOverlap elfIn) (segments-apart-is image announced));
+          c20 = rw none (false-is (extentsOverlap elfIn) (segments-apart-is image found));
           c14 = elf-entry-is image a;
           no-fields = from-on P 9 13 (rw a) (from-on P 10 13 (rw a) (from-on P 11 13 refl (from-on P 12 13 (rw a) (from-on P 13 13 (rw a) (λ k l m. absurd (omega arith))))));
         }

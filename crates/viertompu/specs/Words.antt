@@ -64,6 +64,6 @@ segmentsWords k = joined (segmentWords k) maxSegments
 abbrev pub modulesWords : List Span → List ℕ
 modulesWords m = joined (moduleWords m) maxModules
 
--- the word behind them is how many false headers stand before the header, and seven are zeros
+-- the word behind them is how many false headers stand below the header, and seven are zeros
 unfoldable pub planWords : Decision → List ℕ
 planWords d = headWords d ++ segmentsWords (d .plan .kernel) ++ modulesWords (d .plan .modules) ++ (d .plan .kernel .«false_headers» ∷ zeros 7)

@@ -43,7 +43,7 @@ pub const FIRST_MODULE: usize = 56;
 
 pub const WORDS_PER_MODULE: usize = 2;
 
-// How many false headers stand before the header.
+// How many false headers stand below the header.
 pub const FALSE_HEADERS: usize = 88;
 
 // The words of 32 bits are the numbers below this.

@@ -25,7 +25,7 @@ pub struct Segment {
 pub struct Plan {
     /// the header's offset in the image
     pub header_offset: u32,
-    /// how many false headers stand before the header
+    /// how many false headers stand below the header
     pub false_headers: u32,
     /// the address at which the kernel is entered
     pub entry: u32,

@@ -7,7 +7,7 @@ use core::array::from_fn;
 ///
 /// 0 number, 1 item, 2 header offset, 3 entry, 4 EAX, 5 EBX, 6 and 7 the information block's
 /// start and end, 8 to 55 sixteen segments (start, load end, extent end), 56 to 87 sixteen modules
-/// (start, end), 88 how many false headers stand before the header, 89 to 95 zero.
+/// (start, end), 88 how many false headers stand below the header, 89 to 95 zero.
 pub const WORDS: usize = 96;
 /// The words of a decision.
 pub type Words = [u32; WORDS];

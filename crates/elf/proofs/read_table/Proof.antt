@@ -14,10 +14,10 @@ use Rattle.elf.proofs.read_table.Statement.{statement}
 use Rattle.elf.proofs.read_table.Tie as tie
 
 abbrev Inv-loop : tie.InvT-loop
-Inv-loop image h announced segments₀ count₀ bad₀ i₀ segments count bad i = (i ≤ h .«e_phnum») × (count ≤ i) × Gathered image i segments count × (bad ≡ any (badNo image) i)
+Inv-loop image h found segments₀ count₀ bad₀ i₀ segments count bad i = (i ≤ h .«e_phnum») × (count ≤ i) × Gathered image i segments count × (bad ≡ any (badNo image) i)
 
 abbrev μ-loop : tie.MeasureT-loop
-μ-loop image h announced segments₀ count₀ bad₀ i₀ segments count bad i = h .«e_phnum» - i
+μ-loop image h found segments₀ count₀ bad₀ i₀ segments count bad i = h .«e_phnum» - i
 
 no-segment-requires : tie.Need-no-segment-requires Inv-loop μ-loop
 no-segment-requires c κs = search needs
@@ -80,7 +80,7 @@ returns : tie.Need-returns Inv-loop μ-loop
 returns c =
     let at-loop = c .before .before .before .before in
     let start = at-loop .before .before .before in
-    gathered-all (start .args .image .now) (start .args .h) (start .args .announced) (at-loop .loop .i) (at-loop .loop .segments) (at-loop .loop .count) (at-loop .loop .bad) (start .pre .0) (omega arith) (at-loop .loop .inv .2) (at-loop .loop .inv .3)
+    gathered-all (start .args .image .now) (start .args .h) (start .args .found) (at-loop .loop .i) (at-loop .loop .segments) (at-loop .loop .count) (at-loop .loop .bad) (start .pre .0) (omega arith) (at-loop .loop .inv .2) (at-loop .loop .inv .3)
 
 pub read-table-spec : {M : Type 1} → statement M
 read-table-spec =

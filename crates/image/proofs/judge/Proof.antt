@@ -9,8 +9,8 @@ use Rattle.image.proofs.judge.Tie as tie
 
 -- the two parts of what the search answers
 module _ {r s : Searched} (e : r ≡ s) where
-  found-is : r .header ≡ s .header
-  found-is = ap (λ (t : Searched). t .header) e
+  header-is : r .header ≡ s .header
+  header-is = ap (λ (t : Searched). t .header) e
 
   passed-is : r .«false_headers» ≡ s .«false_headers»
   passed-is = ap (λ (t : Searched). t .«false_headers») e
@@ -24,18 +24,18 @@ enum-told c = search needs
 refused-requires : tie.Need-refused-requires
 refused-requires c κs = search needs
 
-enum-known-found : tie.Need-enum-known-found
-enum-known-found c = search needs
+enum-known-header : tie.Need-enum-known-header
+enum-known-header c = search needs
 
 judge-header-requires : tie.Need-judge-header-requires
 judge-header-requires c κs =
     let known = c .before .before .before .find-header .ensures in
-    (sym (found-is known) ∙ c .before .found .given .1, passed-is known)
+    (sym (header-is known) ∙ c .before .header .given .1, passed-is known)
 
 returns : tie.Need-returns
 returns c =
     let known = c .before .before .before .find-header .ensures in
-    c .refused .ensures ∙ no-header _ _ (sym (found-is known) ∙ c .before .enum-told .given .1) (passed-is known)
+    c .refused .ensures ∙ no-header _ _ (sym (header-is known) ∙ c .before .enum-told .given .1) (passed-is known)
 
 returns-2 : tie.Need-returns-2
 returns-2 c = search needs
@@ -47,7 +47,7 @@ judge-spec =
     find-header-requires
     enum-told
     refused-requires
-    enum-known-found
+    enum-known-header
     judge-header-requires
     returns
     returns-2)

@@ -13,7 +13,7 @@ use Rattle.image.proofs.judge_fields.Tie as tie
 abbrev start : tie.After-read-fields → tie.Start
 start c = c .before .before .before .before .before
 
-whole : (c : tie.After-read-fields) → WholeHeader (start c .args .image .now) (start c .args .announced .header) (c .read-fields .result)
+whole : (c : tie.After-read-fields) → WholeHeader (start c .args .image .now) (start c .args .found .offset) (c .read-fields .result)
 whole c =
     let test = c .before in
     record {
@@ -32,12 +32,12 @@ returns : tie.Need-returns
 returns c =
     let test = c .before in
     let begun = test .before .before .before .before in
-    c .refused .ensures ∙ cut-off (begun .args .image .now) (begun .args .announced .header) (begun .pre .0) (told (test .before .cut-off .ensures) (test .if1 .taken))
+    c .refused .ensures ∙ cut-off (begun .args .image .now) (begun .args .found .offset) (begun .pre .0) (told (test .before .cut-off .ensures) (test .if1 .taken))
 
 read-fields-requires : tie.Need-read-fields-requires
 read-fields-requires c κs =
     let begun = c .before .before .before .before in
-    omega (arith, not-cut-off (begun .args .announced .header .0) (length (begun .args .image .now)) (told (c .before .cut-off .ensures) (c .if1 .left)) .0)
+    omega (arith, not-cut-off (begun .args .found .offset .0) (length (begun .args .image .now)) (told (c .before .cut-off .ensures) (c .if1 .left)) .0)
 
 load-offset-requires : tie.Need-load-offset-requires
 load-offset-requires c κs = search needs
@@ -70,7 +70,7 @@ returns-3 c =
     let at-offset = one .before .before in
     let fields = at-offset .before in
     c .judge-load .ensures
-    ∙ load-left (whole fields) (at-offset .load-offset .result) (at-offset .load-offset .ensures) (one .offset .given .0 .0) (start fields .args .announced) (one .offset .given .1) (start fields .pre .1)
+    ∙ load-left (whole fields) (at-offset .load-offset .result) (at-offset .load-offset .ensures) (one .offset .given .0 .0) (start fields .args .found) (one .offset .given .1) (start fields .pre .1)
 
 pub judge-fields-spec : {M : Type 1} → statement M
 judge-fields-spec =

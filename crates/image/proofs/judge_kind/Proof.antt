@@ -3,7 +3,7 @@
 use mathlib.Core.Path.{_∙_}
 use borrow.Author.Needs.{needs}
 use Rattle.laws.specs.CheckLaws.{told}
-use Rattle.image.proofs.RefusalLaws.{FlagsFound, announced-is, by-elf, by-address}
+use Rattle.image.proofs.RefusalLaws.{FlagsFound, found-is, by-elf, by-address}
 use Rattle.image.proofs.judge_kind.Statement.{statement}
 use Rattle.image.proofs.judge_kind.Tie as tie
 
@@ -24,13 +24,13 @@ returns c =
     let test = c .before in
     let pages = test .before .before in
     let start = pages .before .before in
-    c .judge .ensures ∙ by-elf (found start) _ (announced-is (found start) _ _ (start .pre .1) (pages .on-pages .ensures)) (told (test .before .no-addresses .ensures) (test .if1 .taken))
+    c .judge .ensures ∙ by-elf (found start) _ (found-is (found start) _ _ (start .pre .1) (pages .on-pages .ensures)) (told (test .before .no-addresses .ensures) (test .if1 .taken))
 
 judge-fields-requires : tie.Need-judge-fields-requires
 judge-fields-requires c κs =
     let pages = c .before .before in
     let start = pages .before .before in
-    (start .pre .0, announced-is (found start) _ _ (start .pre .1) (pages .on-pages .ensures))
+    (start .pre .0, found-is (found start) _ _ (start .pre .1) (pages .on-pages .ensures))
 
 returns-2 : tie.Need-returns-2
 returns-2 c =

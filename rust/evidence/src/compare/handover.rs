@@ -120,7 +120,7 @@ impl<'a> Load<'a> {
         self.reading.submission.modules.iter().zip(&self.plan.modules)
     }
 
-    /// The plan names the header that the model finds, and as many false headers before it.
+    /// The plan names the header that the model finds, and as many false headers below it.
     fn header(&self) -> Result<(), String> {
         let told = [self.plan.header_offset, self.plan.false_headers].map(u64::from);
         let kernel = &self.reading.kernel;

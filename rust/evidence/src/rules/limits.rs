@@ -41,6 +41,8 @@ pub const TABLE_ENTRY: usize = 8;
 pub const SEARCH_LIMIT: usize = 8192;
 /// The bytes of a header without address fields.
 pub const SHORT_HEADER: usize = 12;
+/// The last offset at which a header may stand.
+pub const LAST_HEADER: usize = SEARCH_LIMIT - SHORT_HEADER;
 /// The bytes of a header with address fields.
 pub const FULL_HEADER: usize = 32;
 /// The header's first word.

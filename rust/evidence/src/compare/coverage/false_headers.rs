@@ -1,30 +1,35 @@
-//! Goals of false headers, before the header of a load and where there is no header.
+//! Goals of false headers, below the header of a load and where there is no header.
 
 use super::{image_of, Goal};
 use crate::input::case::Case;
-use crate::loaders::model::{false_header_at, Reading};
-use crate::rules::limits::{HEADER_MAGIC, SEARCH_LIMIT, SHORT_HEADER};
+use crate::loaders::model::{false_header_at, false_headers, Reading};
+use crate::rules::limits::{ELF_MARK, HEADER_MAGIC, LAST_HEADER, SEARCH_LIMIT, SHORT_HEADER};
 use std::ops::Range;
 use viertompu::{Plan, Refusal};
 
-/// The last offset that is searched, and the next multiple of 4.
-const LAST: usize = SEARCH_LIMIT - SHORT_HEADER;
-const NEXT: usize = LAST + 4;
-
-/// The goals of an image without a header.
+/// The goals of an image without a header, and of one whose header is refused by its flags.
 pub fn refusal_goals(case: &Case, refusal: Refusal) -> Vec<Goal> {
-    let Refusal::NoHeader { false_headers } = refusal else { return Vec::new() };
-    let image = image_of(case);
+    use Refusal::{NoAddressFields, NoHeader, UndefinedBits, UnknownRequest};
+    match refusal {
+        NoHeader { false_headers } => none_goals(image_of(case), false_headers),
+        UnknownRequest | UndefinedBits | NoAddressFields => {
+            vec![("flags refused behind a false header", false_headers(image_of(case)) > 0)]
+        }
+        _ => Vec::new(),
+    }
+}
+
+fn none_goals(image: &[u8], count: u32) -> Vec<Goal> {
     let at_end = image.len().checked_sub(SHORT_HEADER);
-    let last_bytes = at_end.is_some_and(|at| at < LAST && false_header_at(image, at as u64));
+    let is_last = |at: usize| at < LAST_HEADER && false_header_at(image, at as u64);
     vec![
-        ("no header and no false one", false_headers == 0),
-        ("no header and one false one", false_headers == 1),
-        ("no header and several false ones", false_headers > 1),
-        ("no header and 2,046 false ones", false_headers == 2046),
-        ("no header and a false one in the image's last 12 bytes", last_bytes),
-        ("no header and a false one at 8,180", false_header_at(image, LAST as u64)),
-        ("no header and the magic at 8,184", has_magic(image, NEXT)),
+        ("no header and no false one", count == 0),
+        ("no header and one false one", count == 1),
+        ("no header and several false ones", count > 1),
+        ("no header and 2,046 false ones", count == 2046),
+        ("no header and a false one in the image's last 12 bytes", at_end.is_some_and(is_last)),
+        ("no header and a false one at 8,180", false_header_at(image, LAST_HEADER as u64)),
+        ("no header and the magic at 8,184", has_magic(image, LAST_HEADER + 4)),
         ("no header and a false one in another's bytes", in_another(image, 0..SEARCH_LIMIT)),
         ("no header and the magic off the multiples of 4", magic_aside(image, 0..SEARCH_LIMIT)),
     ]
@@ -40,6 +45,7 @@ pub fn load_goals(reading: &Reading, plan: &Plan) -> Vec<Goal> {
         ("loaded without a false header", count == 0),
         ("loaded behind one false header", count == 1),
         ("loaded behind several false headers", count > 1),
+        ("ELF mark and a false header behind it", image.starts_with(ELF_MARK) && count > 0),
         ("loaded behind a false header in another's bytes", in_another(image, 0..header)),
         ("loaded behind one that reaches into the header", reaches(4) || reaches(8)),
         ("loaded behind the magic off the multiples of 4", magic_aside(image, 0..header)),

@@ -63,6 +63,7 @@ fn at_the_limit() -> Vec<BenchCase> {
         none("the magic in 8,191 bytes", &magics(8191), 2045),
         none("the magic in 12,000 bytes", &magics(12_000), 2046),
         none("the magic in 8,192 bytes, but at 0", &[&[0; 4], &magics(8188)[..]].concat(), 2045),
+        none("the magic in 8,192 bytes, a header behind", &behind(&magics(8192)), 2046),
     ]
 }
 
@@ -97,10 +98,12 @@ fn before_a_header() -> Vec<BenchCase> {
     ]
 }
 
-/// A header that is refused has false ones before it; the answer has no item.
+/// A header that is refused has false ones below it; the answer has no item.
 fn refused_headers() -> Vec<BenchCase> {
     let before = |header: &str| on_board(bare(&image(28, &[(0, FALSE), (16, header)])));
+    let most = on_board(bare(&[magics(8180), bytes(FLAGS_0)].concat()));
     vec![
+        refused("the magic in 8,180 bytes before flags 0", most, Refusal::NoAddressFields),
         refused("a false header before flags 0", before(FLAGS_0), Refusal::NoAddressFields),
         refused("a false header before one cut off", before(FLAGS_10001), Refusal::HeaderCutOff),
     ]

@@ -5,7 +5,7 @@ use crate::input::draft::Header;
 use crate::input::elf::{Elf, ProgramHeader};
 use crate::input::rng::Rng;
 use crate::rules::limits::{
-    ELF_HEADER, MAX_PROGRAM_HEADERS, PROGRAM_HEADER, PT_LOAD, SEARCH_LIMIT, SHORT_HEADER,
+    ELF_HEADER, LAST_HEADER, MAX_PROGRAM_HEADERS, PROGRAM_HEADER, PT_LOAD, SHORT_HEADER,
 };
 
 /// Types of program headers that are not loadable.
@@ -185,7 +185,7 @@ impl Layout {
                 let e_phoff = over_elf_header(rng, kinds);
                 (behind(ELF_HEADER), e_phoff)
             }
-            9 if rng.one_in(3) => (SEARCH_LIMIT - SHORT_HEADER, ELF_HEADER),
+            9 if rng.one_in(3) => (LAST_HEADER, ELF_HEADER),
             _ => return Layout::table_last(rng, room, table),
         };
         let least = (header_offset + SHORT_HEADER).max(e_phoff + table).max(ELF_HEADER);
