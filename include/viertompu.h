@@ -17,8 +17,8 @@ extern "C" {
 #endif
 
 /*
- * The answers: name, number, and when it is given. The checks are made in this order, 9 to 13 for address fields alone and 18 to
- * 20 for an ELF image alone; the first that applies is the answer.
+ * The answers: name, number, and when it is given. The checks of a load are made in this order, 9 to 13 for address fields alone
+ * and 18 to 20 for an ELF image alone; the first that applies is the answer. 26 is a mend's alone.
  * What the sentences speak of:
  *
  *     the map, a pair           the memory map, below; the addresses from base up to base + length
@@ -67,7 +67,8 @@ extern "C" {
     ANSWER(VIERTOMPU_ENTRY_OUTSIDE_LOAD, 14, "the entry lies in no segment's load bytes") \
     ANSWER(VIERTOMPU_KERNEL_NOT_OPEN, 15, "an address of the kernel's extents is not open") \
     ANSWER(VIERTOMPU_NO_ROOM_FOR_MODULE, 16, "there is no room for a module; the item is its index, counted from 0") \
-    ANSWER(VIERTOMPU_NO_ROOM_FOR_BLOCK, 17, "there is no room for the information block")
+    ANSWER(VIERTOMPU_NO_ROOM_FOR_BLOCK, 17, "there is no room for the information block") \
+    ANSWER(VIERTOMPU_NO_MAGIC, 26, "the image has neither a header nor a false header")
 
 #define VIERTOMPU_ANSWER_NUMBER(name, number, reason) name = number,
 enum viertompu_answer { VIERTOMPU_ANSWERS(VIERTOMPU_ANSWER_NUMBER) };
@@ -85,7 +86,7 @@ static inline const char *viertompu_reason(uint32_t number)
 }
 
 /*
- * The words that a call writes: number and item of the answer, and then the plan, which is all zeros in a refusal. The address a
+ * The words that a load writes: number and item of the answer, and then the plan, which is all zeros in a refusal. The address a
  * stands at window[a - first]; ends are exclusive.
  */
 #define VIERTOMPU_PLAN_WORDS 96
@@ -114,6 +115,14 @@ static inline const char *viertompu_reason(uint32_t number)
 #define VIERTOMPU_SEGMENT_EXTENT_END(i) (VIERTOMPU_SEGMENT_START(i) + 2)
 #define VIERTOMPU_MODULE_START(i) (VIERTOMPU_MODULES + VIERTOMPU_MODULE_WORDS * (i))
 #define VIERTOMPU_MODULE_END(i) (VIERTOMPU_MODULE_START(i) + 1)
+
+/* The words that a mend writes. Where nothing was mended all of them are 0. */
+#define VIERTOMPU_MEND_WORDS 4
+
+#define VIERTOMPU_MENDED 0          /* 1 where a checksum was mended */
+#define VIERTOMPU_MENDED_HEADER 1   /* the offset in the image of the header that it belongs to */
+#define VIERTOMPU_OLD_CHECKSUM 2    /* the checksum before */
+#define VIERTOMPU_NEW_CHECKSUM 3    /* the checksum now, which stands 8 bytes behind that offset */
 
 /*
  * The submission: a kernel image with its modules. All numbers are little-endian.
@@ -159,6 +168,17 @@ uint32_t viertompu_load(const uint8_t *submission, size_t submission_len,
                         uint32_t first, uint32_t plan[VIERTOMPU_PLAN_WORDS]);
 
 /*
+ * Mends a checksum: where the image has no header, the lowest false header gets the checksum that makes it one, and no other byte
+ * changes. Returns 0, also where the image has a header already; or VIERTOMPU_NO_MAGIC, and leaves the image as it was. All words
+ * of the report are written. The flags are not judged. Only the image's first 8,192 bytes count, so that these alone may be lent.
+ * The image may be empty; no pointer may be null. Image and report must not overlap.
+ */
+VIERTOMPU_CALL
+uint32_t viertompu_mend(uint8_t *image, size_t image_len, uint32_t report[VIERTOMPU_MEND_WORDS]);
+
+#define VIERTOMPU_SEARCH_LIMIT 8192 /* so many bytes from the image's start count for the header */
+
+/*
  * For boot code (samples/boot.c is an example without a C library):
  *
  * - The archive has code and a table of constants (.text, .rodata) for x86-64, in long mode, in ELF and independent of their
@@ -167,9 +187,9 @@ uint32_t viertompu_load(const uint8_t *submission, size_t submission_len,
  * - Where the window is the memory itself, code, stack, plan and all that is lent must lie outside it: the library knows of
  *   the map, the kernel and its modules alone. A window at address 0 needs another mapping, since a pointer to it is null.
  * - It uses the SSE registers, so that CR4.OSFXSR must be set, and CR0.EM and CR0.TS clear; it uses neither x87, MMX nor AVX.
- * - It takes about 7.9 KB of stack, which must be aligned to 16 bytes where the call is made, as the System V calls ask. It
- *   writes nothing below the stack pointer (no red zone), so that interrupts may run on the same stack if it has room for
- *   them.
+ * - A load takes about 7.9 KB of stack, a mend far less; it must be aligned to 16 bytes where the call is made, as the System V
+ *   calls ask. Nothing is written below the stack pointer (no red zone), so that interrupts may run on the same stack if it has
+ *   room for them.
  */
 #define VIERTOMPU_STACK 8192        /* bytes of stack that are enough for a call, with room for memcpy and memset */
 

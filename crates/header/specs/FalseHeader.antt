@@ -7,25 +7,22 @@
 use mathlib.Core.Bool.{Bool, not, _&&_}
 use mathlib.Core.List.{List}
 use Prim.Native.Nat.{ℕ, _+_, _*_, _/_}
-use lib.Dec.{eqb, leb}
+use lib.Dec.{eqb}
 use lib.ListN.{length}
 use Rattle.laws.specs.Passing.{passing}
 use Rattle.number.specs.Number.{numberAt}
 use Rattle.header.specs.declared.Search.{Search}
 use Rattle.header.specs.declared.Search.the-variants.{At, Nothing}
 use Rattle.header.specs.declared.Searched.{Searched}
-use Rattle.header.specs.Header.{headerMagic, searchLimit, shortHeader, sumIsZero, header}
+use Rattle.header.specs.Header.{headerMagic, searchLimit, hasRoom, sumIsZero, header}
 
 -- the first word is the magic, and the sum is not 0
 unfoldable pub isFalseHeader : ℕ → ℕ → ℕ → Bool
 isFalseHeader m flags checksum = eqb m headerMagic && not (sumIsZero m flags checksum)
 
--- such words stand at the offset o, with room for 12 bytes inside both the image and its first 8,192 bytes
+-- such words stand at the offset o, with room for a header
 unfoldable pub isFalseHeaderAt : List ℕ → ℕ → Bool
-isFalseHeaderAt image o =
-    leb (o + shortHeader) (length image)
-    && leb (o + shortHeader) searchLimit
-    && isFalseHeader (numberAt 4 image o) (numberAt 4 image (o + 4)) (numberAt 4 image (o + 8))
+isFalseHeaderAt image o = hasRoom image o && isFalseHeader (numberAt 4 image o) (numberAt 4 image (o + 4)) (numberAt 4 image (o + 8))
 
 -- the multiples of 4 are places: place k is the offset 4k
 abbrev pub isFalsePlace : List ℕ → ℕ → Bool

@@ -2,7 +2,7 @@
 --     false-here, no-magic, no-room    the test at an offset
 --     false-below, false-anywhere      so many numbers k have a false header at 4k: below the header found, or in the searched part
 --     false-most                       at most 2,046
---     searched-part                    what stands behind the searched part has no share in the answer
+--     header-same, searched-part       what stands behind the searched part has no share in the answer
 -- Assumes nothing.
 use mathlib.Core.Path.{_≡_, ap, sym, _∙_}
 use mathlib.Core.Bool.{Bool, true, false, not, _&&_}
@@ -10,7 +10,7 @@ use mathlib.Core.List.{List}
 use mathlib.Core.Logic.{_↔_, ⊎-elim}
 use Prim.Native.Nat.{ℕ, _+_, _*_, _/_, _%_, _≤_, _<_}
 use native.Mathlib.Omega.{arith}
-use borrow.Author.Tests.{leb-true, le-leb, lt-leb}
+use borrow.Author.Tests.{le-leb}
 use lib.Dec.{eqb, leb}
 use lib.ListN.{length, take, length-take}
 use lib.Seq.{take-all}
@@ -23,18 +23,16 @@ use Rattle.number.specs.Number.{numberAt}
 use Rattle.address.specs.declared.ImageOffset.{ImageOffset}
 use Rattle.header.specs.declared.Search.{Search}
 use Rattle.header.specs.declared.Search.the-variants.{At, Nothing}
-use Rattle.header.specs.Header.{headerMagic, searchLimit, shortHeader, sumIsZero, words, headerFrom, header}
+use Rattle.header.specs.Header.{headerMagic, searchLimit, shortHeader, hasRoom, sumIsZero, words, headerFrom, header}
 use Rattle.header.specs.FalseHeader.{isFalseHeader, isFalseHeaderAt, isFalsePlace, placesPassed, falseHeaders, searched}
 use Rattle.header.specs.HeaderAt.{FalseHeaderAt}
+use Rattle.header.specs.RoomLaws.{room-is, past-end, past-limit}
 use Rattle.header.specs.HeaderLaws.{word-take}
 
 -- the test at an offset
 module _ (image : List ℕ) (o : ℕ) where
   abbrev room : Bool
-  room = leb (o + shortHeader) (length image)
-
-  abbrev early : Bool
-  early = leb (o + shortHeader) searchLimit
+  room = hasRoom image o
 
   abbrev marked : Bool
   marked = eqb (numberAt 4 image o) headerMagic
@@ -46,28 +44,27 @@ module _ (image : List ℕ) (o : ℕ) where
   false-is : o % 4 ≡ 0 → (isFalseHeaderAt image o ≡ true) ↔ FalseHeaderAt image o
   unfolding isFalseHeaderAt isFalseHeader
   false-is z =
-      let place = and-is room early (leb-true _ _, le-leb _ _) (leb-true _ _, le-leb _ _) in
       let words = and-is marked (not zero) (eqb-is _ _) (not-is zero (eqb-is _ _)) in
-      let is = and-is (room && early) (marked && not zero) place words in (
-        λ t. let r = is .0 t in record { multiple = z; whole = r .0 .0; early = r .0 .1; marked = r .1 .0; sum = r .1 .1 },
-        λ h. is .1 ((h .whole, h .early), (h .marked, h .sum)),
+      let is = and-is room (marked && not zero) (room-is image o) words in (
+        λ t. let r = is .0 t in record { magic = record { multiple = z; whole = r .0 .0; early = r .0 .1; marked = r .1 .0 }; sum = r .1 .1 },
+        λ h. let m = h .magic in is .1 ((m .whole, m .early), (m .marked, h .sum)),
       )
 
   pub false-here : o + shortHeader ≤ length image → o + shortHeader ≤ searchLimit → marked ≡ true → zero ≡ false → isFalseHeaderAt image o ≡ true
   unfolding isFalseHeaderAt isFalseHeader
-  false-here l m e f = and-both (room && early) (marked && not zero) (and-both room early (le-leb _ _ l) (le-leb _ _ m)) (and-both marked (not zero) e (not-to-true zero f))
+  false-here l m e f = and-both room (marked && not zero) (room-is image o .1 (l, m)) (and-both marked (not zero) e (not-to-true zero f))
 
   pub no-magic : marked ≡ false → isFalseHeaderAt image o ≡ false
   unfolding isFalseHeaderAt isFalseHeader
-  no-magic e = and-fails-right (room && early) (marked && not zero) (and-fails-left marked (not zero) e)
+  no-magic e = and-fails-right room (marked && not zero) (and-fails-left marked (not zero) e)
 
   pub no-room : length image < o + shortHeader → isFalseHeaderAt image o ≡ false
   unfolding isFalseHeaderAt isFalseHeader
-  no-room l = and-fails-left (room && early) (marked && not zero) (and-fails-left room early (lt-leb _ _ l))
+  no-room l = and-fails-left room (marked && not zero) (past-end image o l)
 
   too-late : searchLimit < o + shortHeader → isFalseHeaderAt image o ≡ false
   unfolding isFalseHeaderAt isFalseHeader
-  too-late l = and-fails-left (room && early) (marked && not zero) (and-fails-right room early (lt-leb _ _ l))
+  too-late l = and-fails-left room (marked && not zero) (past-limit image o l)
 
 -- so many numbers k have a false header at 4k
 module _ (image : List ℕ) where
@@ -120,7 +117,7 @@ module _ (image : List ℕ) where
       (lt-or-le (length image) (o + shortHeader)))
       (lt-or-le searchLimit (o + shortHeader))
 
-  header-same : header part ≡ header image
+  pub header-same : header part ≡ header image
   unfolding header
   header-same = ap (λ (s : List ℕ). headerFrom 0 (words s)) (take-all searchLimit part part-short)
 

@@ -1,5 +1,6 @@
 -- The Multiboot header of an image.                                                    rule: HEADER
 --     headerMagic, searchLimit, shortHeader      the numbers of the rule
+--     hasRoom                                    whether 12 bytes fit at an offset
 --     words                                      the numbers that bytes make, four by four
 --     sumIsZero, isHeader, headerFrom, header    the search, word by word from the front
 -- What a header is in propositions stands in HeaderAt, and that the search finds the lowest in HeaderLaws; how many false
@@ -8,8 +9,8 @@
 use mathlib.Core.Bool.{Bool, cond, _&&_}
 use mathlib.Core.List.{List, [], _∷_}
 use Prim.Native.Nat.{ℕ, _+_, _%_, _^_}
-use lib.Dec.{eqb}
-use lib.ListN.{take}
+use lib.Dec.{eqb, leb}
+use lib.ListN.{length, take}
 use Rattle.number.specs.Number.{number}
 use Rattle.header.specs.declared.Search.{Search}
 use Rattle.header.specs.declared.Search.the-variants.{At, Nothing}
@@ -25,6 +26,10 @@ searchLimit = 8192
 -- magic, flags and checksum
 abbrev pub shortHeader : ℕ
 shortHeader = 12
+
+-- 12 bytes fit at the offset o, inside both the image and its first 8,192 bytes
+abbrev pub hasRoom : List ℕ → ℕ → Bool
+hasRoom image o = leb (o + shortHeader) (length image) && leb (o + shortHeader) searchLimit
 
 -- the numbers that a list's bytes make, four by four; what is left of fewer than four is no number
 unfoldable pub words : List ℕ → List ℕ

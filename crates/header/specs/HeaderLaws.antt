@@ -24,6 +24,7 @@ use Rattle.header.specs.declared.Search.the-variants.{At, Nothing}
 use Rattle.header.specs.Header.{headerMagic, searchLimit, shortHeader, words, isHeader, headerFrom, header}
 use Rattle.header.specs.WalkLaws.{found-at, passed-at, none-left}
 use Rattle.header.specs.HeaderAt.{HeaderAt}
+use Rattle.header.specs.SearchLaws.{Answers, one-answer}
 
 is-header : (m f k : ℕ) → isHeader m f k ≡ true → (m ≡ headerMagic) × ((m + f + k) % 2 ^ 32 ≡ 0)
 unfolding isHeader
@@ -84,62 +85,46 @@ module _ (s : List ℕ) where
   test-searched at l = rw (word-take searchLimit s at (omega arith), word-take searchLimit s (at + 4) (omega arith), word-take searchLimit s (at + 8) (omega arith))
 
   from-test : (o : ℕ) → test s o ≡ true → o % 4 ≡ 0 → o + shortHeader ≤ length s → o + shortHeader ≤ searchLimit → HeaderAt s o
-  from-test o t m w e = let f = is-header _ _ _ t in record { multiple = m; whole = w; early = e; marked = f .0; sum = f .1 }
+  from-test o t m w e = let f = is-header _ _ _ t in record { magic = record { multiple = m; whole = w; early = e; marked = f .0 }; sum = f .1 }
 
   to-test : (o : ℕ) → HeaderAt s o → test s o ≡ true
   unfolding isHeader
-  to-test o h = and-both _ _ (eq-eqb _ _ (h .marked)) (eq-eqb _ _ (h .sum))
-
-  -- what the search's answer says of all offsets
-  abbrev pub Answers : Search → Type 0
-  Answers Nothing = (o : ℕ) → HeaderAt s o → ⊥
-  Answers (At o) = HeaderAt s (o .0) × ((p : ℕ) → p < o .0 → HeaderAt s p → ⊥)
+  to-test o h = and-both _ _ (eq-eqb _ _ (h .magic .marked)) (eq-eqb _ _ (h .sum))
 
   -- a header stands at a place of the search, and passes its test there
   placed : (p : ℕ) → HeaderAt s p → test (take searchLimit s) (0 + 4 * (p / 4)) ≡ true
   placed p a =
-      let q : 0 + 4 * (p / 4) ≡ p = omega (arith, a .multiple) in
-      rw (q, test-searched p (a .early)) (to-test p a)
+      let q : 0 + 4 * (p / 4) ≡ p = omega (arith, a .magic .multiple) in
+      rw (q, test-searched p (a .magic .early)) (to-test p a)
 
   -- what the search over the searched part says of the image
-  told : (r : Search) → Says (take searchLimit s) 0 r → Answers r
-  told Nothing h = λ p a. false≢true (sym (h (p / 4) (simp length-take (omega (arith, a .multiple, a .whole, a .early)))) ∙ placed p a)
+  told : (r : Search) → Says (take searchLimit s) 0 r → Answers (HeaderAt s) r
+  told Nothing h = λ p a. false≢true (sym (h (p / 4) (simp length-take (omega (arith, a .magic .multiple, a .magic .whole, a .magic .early)))) ∙ placed p a)
   told (At o) h =
       let e : o .0 ≡ 0 + 4 * h .0 = h .1 in
       let l : o .0 + shortHeader ≤ min searchLimit (length s) = simp length-take at (h .2) in
       let t : test s (o .0) ≡ true = sym (test-searched (o .0) (omega arith)) ∙ h .3 in (
         from-test (o .0) t (omega arith) (omega arith) (omega arith),
-        λ p m a. false≢true (sym (h .4 (p / 4) (omega (arith, a .multiple))) ∙ placed p a),
+        λ p m a. false≢true (sym (h .4 (p / 4) (omega (arith, a .magic .multiple))) ∙ placed p a),
       )
 
-  pub answers : Answers (header s)
+  -- what the search answers
+  pub answers : Answers (HeaderAt s) (header s)
   unfolding header
   answers = told (headerFrom 0 (words (take searchLimit s))) (walk (take searchLimit s) (length s) 0 (simp length-take (omega arith)))
 
 -- a header that was found is the lowest
 pub header-lowest : (s : List ℕ) (o : ImageOffset) → header s ≡ At o → HeaderAt s (o .0) × ((p : ℕ) → p < o .0 → HeaderAt s p → ⊥)
-header-lowest s o e = subst (Answers s) e (answers s)
+header-lowest s o e = subst (Answers (HeaderAt s)) e (answers s)
 
 -- nothing is found only where there is no header
 pub header-none : (s : List ℕ) → header s ≡ Nothing → (o : ℕ) → HeaderAt s o → ⊥
-header-none s e = subst (Answers s) e (answers s)
-
-found-one : (s : List ℕ) (o : ℕ) → HeaderAt s o → ((p : ℕ) → p < o → HeaderAt s p → ⊥) → (r : Search) → Answers s r → r ≡ At (record { 0 = o })
-found-one s o a low Nothing h = absurd (h o a)
-found-one s o a low (At q) h =
-    let l : o ≤ q .0 = ⊎-elim (λ m. absurd (low (q .0) m (h .0))) (λ m. m) (lt-or-le (q .0) o) in
-    let m : q .0 ≤ o = ⊎-elim (λ m. absurd (h .1 o m a)) (λ m. m) (lt-or-le o (q .0)) in
-    let e : q .0 ≡ o = omega arith in
-    ap (λ (n : ℕ). At (record { 0 = n })) e
+header-none s e = subst (Answers (HeaderAt s)) e (answers s)
 
 -- the lowest header is found
 pub lowest-header : (s : List ℕ) (o : ℕ) → HeaderAt s o → ((p : ℕ) → p < o → HeaderAt s p → ⊥) → header s ≡ At (record { 0 = o })
-lowest-header s o a low = found-one s o a low (header s) (answers s)
-
-found-none : (s : List ℕ) → ((o : ℕ) → HeaderAt s o → ⊥) → (r : Search) → Answers s r → r ≡ Nothing
-found-none s none Nothing h = refl
-found-none s none (At o) h = absurd (none (o .0) (h .0))
+lowest-header s o a low = one-answer (HeaderAt s) (header s) (At (record { 0 = o })) (answers s) (a, low)
 
 -- where there is no header nothing is found
 pub none-header : (s : List ℕ) → ((o : ℕ) → HeaderAt s o → ⊥) → header s ≡ Nothing
-none-header s none = found-none s none (header s) (answers s)
+none-header s none = one-answer (HeaderAt s) (header s) Nothing (answers s) none

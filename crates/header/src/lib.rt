@@ -9,16 +9,16 @@ ghost use Rattle.header.specs.Header.{headerMagic, searchLimit, shortHea
 ghost use Rattle.header.specs.FalseHeader.{searched};
 
 // A header begins with this number.
-const HEADER_MAGIC: u32 = 0x1BADB002;
+pub const HEADER_MAGIC: u32 = 0x1BADB002;
 
 // A header lies wholly in so many bytes from the image's start.
 pub const SEARCH_LIMIT: usize = 8192;
 
 // A header stands at a multiple of this offset.
-const STEP: usize = 4;
+pub const STEP: usize = 4;
 
 // Magic, flags and checksum.
-const SHORT_HEADER: usize = 12;
+pub const SHORT_HEADER: usize = 12;
 
 // What the search for a header finds.
 pub enum Search {
@@ -33,7 +33,7 @@ pub struct Searched {
 }
 
 // Whether the magic stands at the offset `at`.
-fn has_magic(s: &[u8], at: usize) -> bool
+pub fn has_magic(s: &[u8], at: usize) -> bool
     ensures { λ r. ⌜ r ≡ eqb (numberAt 4 (now (s .entry)) at) headerMagic ⌝ }
 {
     number::read_u32(s, at) == HEADER_MAGIC

@@ -243,7 +243,7 @@ module _ (image : List ℕ) (e : firstOf (imageChecks image) Load ≡ Load) wher
         record {
           found = f;
           counted = refl;
-          early = header-lowest image (fieldsKernel image .header) f .0 .early;
+          early = header-lowest image (fieldsKernel image .header) f .0 .magic .early;
           pages = refl;
           few = omega arith;
           rest = kernel-past (foundHeader image) (headerFields image .«entry_addr») (segmentFor (headerFields image) (firstLoaded image) (countLoaded image) ∷ []);
@@ -279,7 +279,7 @@ module _ (image : List ℕ) (e : firstOf (imageChecks image) Load ≡ Load) wher
         record {
           found = f;
           counted = refl;
-          early = header-lowest image (elfIn image .header) f .0 .early;
+          early = header-lowest image (elfIn image .header) f .0 .magic .early;
           pages = refl;
           few = p .few;
           rest = t .rest;

@@ -68,7 +68,7 @@ pub fn read_u64(s: &[u8], at: usize) -> u64
 }
 
 // Writes x into dst at the offset `at`, lowest byte first; what would fall past the end is left out.
-fn write_u32(dst: &mut [u8], at: usize, x: u32)
+pub fn write_u32(dst: &mut [u8], at: usize, x: u32)
     ensures { λ _. ⌜ now (dst .exit) ≡ patched (now (dst .entry)) at (numberBytes 4 x) ⌝ }
 {
     let x1 = x / 256;

@@ -1,4 +1,4 @@
-// The C interface: a load, and its plan as words.
+// The C interface: a load, and its plan as words; a mend is in `mending`.
 use address::Span;
 use decision::Decision;
 use kernel::Kernel;
@@ -12,6 +12,8 @@ ghost use Rattle.decision.specs.Decision.{decisionOf};
 ghost use Rattle.decision.specs.Lent.{lent};
 ghost use Rattle.loader.specs.Memory.{memoryAfter};
 ghost use Rattle.viertompu.specs.Words.{firstSegment, firstModule, wordOf, headWords, segmentsWords, modulesWords, planWords};
+
+mod mending;
 
 // How many words a plan has.
 pub const WORDS: usize = 96;
@@ -128,7 +130,7 @@ fn write_modules(plan: &mut [u32; WORDS], modules: [Span; MAX_MODULES])
 }
 
 // An address or an offset as a word. In a load each is below 2^32, so nothing is lost.
-fn word(a: u64) -> u32
+pub(crate) fn word(a: u64) -> u32
     ensures { λ r. ⌜ r ≡ wordOf a ⌝ }
 {
     (a % WORD_RANGE) as u32

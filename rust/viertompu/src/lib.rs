@@ -3,6 +3,7 @@
 //! [`load`] decides for every submission, operator's command line, memory map and window between a
 //! load, after which each byte of the window is known, and a numbered refusal that changes nothing.
 //! The rules, the formats of submission and map among them, are told in `docs/RULES.md`.
+//! [`mend`] gives an image whose header has a wrong checksum the right one.
 //!
 //! A dependency `viertompu = { path = "…/rust/viertompu" }` links `target/staticlib/libviertompu.a`,
 //! which `rt staticlib viertompu` writes, for x86-64. The crate has no std, no heap and no other
@@ -34,10 +35,12 @@
 
 #![no_std]
 
+mod mending;
 mod plan;
 mod refusal;
 mod words;
 
+pub use mending::{read_mend_words, MendWords, Mending, NoMagic, MEND_WORDS};
 pub use plan::{Plan, Segment, Span, MAX_MODULES, MAX_SEGMENTS};
 pub use refusal::Refusal;
 pub use words::{read_words, Words, WORDS};
@@ -56,6 +59,9 @@ extern "sysv64" {
         first: u32,
         plan: *mut u32,
     ) -> u32;
+
+    /// As `include/viertompu.h` declares it.
+    fn viertompu_mend(image: *mut u8, image_len: usize, report: *mut u32) -> u32;
 }
 
 /// Loads a submission into the window, which stands for physical memory from the address `first`
@@ -100,4 +106,32 @@ pub fn load_words(
             words.as_mut_ptr(),
         )
     }
+}
+
+/// Mends the checksum at the lowest magic of an image that has no header, and changes no other
+/// byte; or tells that it has a header, or nothing to mend, and leaves it as it was.
+///
+/// The flags are not judged, and only the first 8,192 bytes count.
+///
+/// ```
+/// // A header whose flags were patched and whose checksum is that of flags 0.
+/// let words: [u32; 3] = [0x1BAD_B002, 0x3, 0xE452_4FFE];
+/// let mut image = words.map(u32::to_le_bytes).concat();
+/// let mended = viertompu::Mending::Mended { offset: 0, old: 0xE452_4FFE, new: 0xE452_4FFB };
+/// assert_eq!(viertompu::mend(&mut image), Ok(mended));
+/// assert_eq!(viertompu::mend(&mut image), Ok(viertompu::Mending::HeaderFound));
+/// assert_eq!(viertompu::mend(&mut [0; 12]), Err(viertompu::NoMagic));
+/// ```
+pub fn mend(image: &mut [u8]) -> Result<Mending, NoMagic> {
+    let mut words = [0; MEND_WORDS];
+    let number = mend_words(image, &mut words);
+    read_mend_words(number, &words)
+}
+
+/// Does as [`mend`], writes the words of the C interface, and gives the number.
+#[inline]
+pub fn mend_words(image: &mut [u8], words: &mut MendWords) -> u32 {
+    // SAFETY: the pointer comes with the length of its slice; image and words are borrowed for
+    // writing and overlap nothing; the function keeps no pointer.
+    unsafe { viertompu_mend(image.as_mut_ptr(), image.len(), words.as_mut_ptr()) }
 }

@@ -1,7 +1,7 @@
 //! Each refusal has the number and the sentence of the rules.
 
 use std::fs;
-use viertompu::Refusal;
+use viertompu::{NoMagic, Refusal};
 
 const RULES: &str = concat!(env!("CARGO_MANIFEST_DIR"), "/../../docs/RULES.md");
 /// Behind the last number of the rules.
@@ -17,7 +17,10 @@ fn sentence(rules: &str, number: u32) -> Option<&str> {
 fn a_refusal_displays_as_its_sentence() {
     let rules = fs::read_to_string(RULES).expect("the rules can be read");
     for number in 1..NUMBERS {
-        let displayed = Refusal::of_number(number, 0).map(|refusal| refusal.to_string());
+        let displayed = match number {
+            NoMagic::NUMBER => Some(NoMagic.to_string()),
+            _ => Refusal::of_number(number, 0).map(|refusal| refusal.to_string()),
+        };
         assert_eq!(displayed.as_deref(), sentence(&rules, number), "{number}");
     }
 }

@@ -13,7 +13,7 @@ use Rattle.image.proofs.judge_header.Statement.{statement}
 use Rattle.image.proofs.judge_header.Tie as tie
 
 inside : (c : tie.Start) → (c .args .at .0 + shortHeader ≤ length (c .args .image .now)) × (c .args .at .0 + shortHeader ≤ searchLimit)
-inside c = let h = header-lowest (c .args .image .now) (c .args .at) (c .pre .0) .0 in (h .whole, h .early)
+inside c = let m = header-lowest (c .args .image .now) (c .args .at) (c .pre .0) .0 .magic in (m .whole, m .early)
 
 found : (c : tie.After-read-u32) → FlagsFound (c .before .before .before .args .image .now) (c .before .before .before .args .at) (c .read-u32 .result)
 found c = record { found = c .before .before .before .pre .0; read = c .read-u32 .ensures }

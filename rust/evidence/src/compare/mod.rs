@@ -5,12 +5,14 @@
 //! - [`elf`]: the headers of an ELF image as they stand in it
 //! - [`by_address`]: an outcome is what the address-by-address model says
 //! - [`coverage`]: how often each number came, each rule was broken and each goal was reached
+//! - [`mending`]: two mends of an image are one; a mend is right by itself
 //! - [`printed`]: what the review program prints for a submission
 
 pub mod by_address;
 pub mod coverage;
 pub mod elf;
 pub mod handover;
+pub mod mending;
 pub mod printed;
 
 use crate::input::case::Case;

@@ -5,13 +5,15 @@
 //!   bytes
 //! - [`review_board`]: the board of the review program
 //! - [`bench_cases`]: worked cases of the rules with what they must give
-//! - [`rng`], [`generate`]: seeded random numbers, and the cases made of them
+//! - [`mend_cases`]: worked images for mending
+//! - [`rng`], [`generate`]: seeded random numbers, and the cases and images made of them
 
 pub mod bench_cases;
 pub mod case;
 pub mod draft;
 pub mod elf;
 pub mod generate;
+pub mod mend_cases;
 pub mod pair;
 pub mod review_board;
 pub mod rng;

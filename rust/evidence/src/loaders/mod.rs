@@ -4,7 +4,9 @@
 //! - [`second`]: a loader that places items by sets of spans
 //! - [`model`]: checks and places as the rules say them, one address at a time
 //! - [`proved`]: the proved library, by its words and by the names that the crate gives them
+//! - [`mending`]: the same three as menders of a checksum
 
+pub mod mending;
 pub mod model;
 pub mod proved;
 pub mod second;

@@ -1,8 +1,8 @@
-//! The proved library behind the same function type as the second loader.
+//! The proved library behind the same function types as the second loader.
 
 use crate::input::case::Case;
-use crate::rules::words;
-use viertompu::{load_words, Words, WORDS};
+use crate::rules::{mend_words, words};
+use viertompu::{load_words, MendWords, Words, MEND_WORDS, WORDS};
 
 /// Stands in every word before the call, so that a word left unwritten shows.
 const UNWRITTEN: u32 = 0xDEAD_BEEF;
@@ -19,4 +19,16 @@ pub fn load(case: &Case, window: &mut [u8]) -> Words {
 /// Loads the case, and gives the words of the plan or refusal that the crate makes of it.
 pub fn load_named(case: &Case, window: &mut [u8]) -> Words {
     words(&viertompu::load(&case.submission, &case.operator, &case.map, window, case.first))
+}
+
+/// Mends the image, and gives the number and the words as the library gives them.
+pub fn mend(image: &mut [u8]) -> (u32, MendWords) {
+    let mut words = [UNWRITTEN; MEND_WORDS];
+    let number = viertompu::mend_words(image, &mut words);
+    (number, words)
+}
+
+/// Mends the image, and gives the number and the words of the answer that the crate makes of them.
+pub fn mend_named(image: &mut [u8]) -> (u32, MendWords) {
+    mend_words(&viertompu::mend(image))
 }

@@ -5,7 +5,7 @@ pub mod limits;
 pub mod offsets;
 mod words;
 
-pub use words::{numbers, words, Decision};
+pub use words::{mend_words, numbers, words, Decision, MendAnswer};
 
 /// Something to be placed: a module or the information block.
 #[derive(Clone, Copy, Debug, PartialEq, Eq)]

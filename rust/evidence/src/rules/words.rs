@@ -1,7 +1,7 @@
-//! A decision as the 96 words that a loader gives.
+//! A decision as the 96 words that a loader gives, and the answer of a mend as its four.
 
 use std::iter::once;
-use viertompu::{Plan, Refusal, Words, WORDS};
+use viertompu::{MendWords, Mending, NoMagic, Plan, Refusal, Words, MEND_WORDS, WORDS};
 
 pub type Decision = Result<Plan, Refusal>;
 
@@ -19,6 +19,18 @@ pub fn words(decision: &Decision) -> Words {
     let mut words = [0; WORDS];
     words[..numbers.len()].copy_from_slice(&numbers);
     words
+}
+
+/// The answer of a mend.
+pub type MendAnswer = Result<Mending, NoMagic>;
+
+/// The number of a mend's answer, and its words, which are zeros where nothing was mended.
+pub fn mend_words(answer: &MendAnswer) -> (u32, MendWords) {
+    match *answer {
+        Ok(Mending::HeaderFound) => (0, [0; MEND_WORDS]),
+        Ok(Mending::Mended { offset, old, new }) => (0, [1, offset, old, new]),
+        Err(NoMagic) => (NoMagic::NUMBER, [0; MEND_WORDS]),
+    }
 }
 
 /// Number and item 0, then the plan.

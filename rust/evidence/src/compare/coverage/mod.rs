@@ -5,6 +5,9 @@ mod elf;
 mod false_headers;
 mod flags;
 mod load;
+mod mending;
+
+pub use mending::MendCoverage;
 
 use crate::input::case::Case;
 use crate::loaders::model::{self, Reading, Rule};

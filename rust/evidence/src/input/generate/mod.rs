@@ -5,6 +5,9 @@ mod address_fields;
 mod board;
 mod damage;
 mod elf;
+mod image;
+
+pub use image::image;
 
 use crate::input::case::Case;
 use crate::input::draft::{Draft, Header, Module};

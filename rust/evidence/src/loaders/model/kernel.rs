@@ -9,11 +9,11 @@ use std::ops::Range;
 use viertompu::Refusal;
 
 /// Where the magic stands in a header.
-const MAGIC: usize = 0;
+pub(super) const MAGIC: usize = 0;
 /// A header, also a false one, stands at a multiple of this.
 const HEADER_BOUNDARY: u64 = 4;
 /// The sum of magic, flags and checksum is a multiple of this.
-const CARRY: u64 = 1 << 32;
+pub(super) const CARRY: u64 = 1 << 32;
 
 /// Where a part of a kernel comes from and goes to, as exact numbers.
 pub struct Segment {
@@ -90,7 +90,7 @@ pub fn word(image: &[u8], offset: u64, field: usize) -> u64 {
 }
 
 /// All offsets of the part that is searched, whether a header may stand there or not.
-fn searched() -> Range<u64> {
+pub(super) fn searched() -> Range<u64> {
     0..SEARCH_LIMIT as u64
 }
 
@@ -100,7 +100,7 @@ fn is_header(image: &[u8], offset: u64) -> bool {
 }
 
 /// Does the magic stand at an offset where a header may stand and has room?
-fn has_magic(image: &[u8], offset: u64) -> bool {
+pub(super) fn has_magic(image: &[u8], offset: u64) -> bool {
     let inside = image.len().min(SEARCH_LIMIT) as u64;
     offset % HEADER_BOUNDARY == 0
         && offset + SHORT_HEADER as u64 <= inside

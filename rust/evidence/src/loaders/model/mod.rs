@@ -7,10 +7,12 @@ mod address_fields;
 mod elf;
 mod kernel;
 mod memory_map;
+mod mending;
 mod placing;
 mod submission;
 
 pub use kernel::{false_header_at, false_headers, header_offset, Kernel, Segment};
+pub use mending::{byte_after, mending};
 pub use placing::Board;
 pub use submission::{Module, Submission};
 

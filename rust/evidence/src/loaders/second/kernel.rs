@@ -54,7 +54,7 @@ fn find_header(image: &[u8]) -> Result<(ImageOffset, u32), Refusal> {
 }
 
 /// The offsets, in rising order, that hold the magic: each is a header's or a false header's.
-fn magic_offsets(image: &[u8]) -> Vec<usize> {
+pub(super) fn magic_offsets(image: &[u8]) -> Vec<usize> {
     let end = image.len().min(SEARCH_LIMIT);
     let has_room = |at: &usize| at + SHORT_HEADER <= end;
     let has_magic = |at: &usize| u32_at(image, *at) == HEADER_MAGIC;
@@ -62,7 +62,7 @@ fn magic_offsets(image: &[u8]) -> Vec<usize> {
 }
 
 /// Do the magic at an offset, the flags and the checksum give 0 modulo 2^32?
-fn adds_up(image: &[u8], at: usize) -> bool {
+pub(super) fn adds_up(image: &[u8], at: usize) -> bool {
     let flags = u32_at(image, at + header::FLAGS);
     let checksum = u32_at(image, at + header::CHECKSUM);
     HEADER_MAGIC.wrapping_add(flags).wrapping_add(checksum) == 0

@@ -9,8 +9,11 @@ mod elf;
 mod image;
 mod kernel;
 mod memory_map;
+mod mending;
 mod spans;
 mod submission;
+
+pub use mending::mend;
 
 use crate::input::case::Case;
 use crate::rules::limits::{BOOT_MAGIC, MAX_LINE, PAGE, TOP, WORD};
