@@ -18,7 +18,8 @@ extern "C" {
 
 /*
  * The answers: name, number, and when it is given. The checks of a load are made in this order, 9 to 13 for address fields alone
- * and 18 to 20 for an ELF image alone; the first that applies is the answer. 26 is a mend's alone.
+ * and 18 to 20 for an ELF image alone; the first that applies is the answer. 26 is a mend's alone, which returns 0 where it does
+ * not refuse.
  * What the sentences speak of:
  *
  *     the map, a pair           the memory map, below; the addresses from base up to base + length
@@ -116,6 +117,9 @@ static inline const char *viertompu_reason(uint32_t number)
 #define VIERTOMPU_MODULE_START(i) (VIERTOMPU_MODULES + VIERTOMPU_MODULE_WORDS * (i))
 #define VIERTOMPU_MODULE_END(i) (VIERTOMPU_MODULE_START(i) + 1)
 
+/* So many bytes from the image's start are searched for a header; a mend needs no others. */
+#define VIERTOMPU_SEARCH_LIMIT 8192
+
 /* The words that a mend writes. Where nothing was mended all of them are 0. */
 #define VIERTOMPU_MEND_WORDS 4
 
@@ -168,15 +172,13 @@ uint32_t viertompu_load(const uint8_t *submission, size_t submission_len,
                         uint32_t first, uint32_t plan[VIERTOMPU_PLAN_WORDS]);
 
 /*
- * Mends a checksum: where the image has no header, the lowest false header gets the checksum that makes it one, and no other byte
- * changes. Returns 0, also where the image has a header already; or VIERTOMPU_NO_MAGIC, and leaves the image as it was. All words
- * of the report are written. The flags are not judged. Only the image's first 8,192 bytes count, so that these alone may be lent.
- * The image may be empty; no pointer may be null. Image and report must not overlap.
+ * Mends a checksum: where the image has no header, the lowest false header gets the checksum that makes it a header, and no other
+ * byte changes. Returns 0, also where the image has a header already; or VIERTOMPU_NO_MAGIC, and leaves the image as it was. All
+ * words of the report are written. The flags are not judged. Only the first VIERTOMPU_SEARCH_LIMIT bytes of the image count, so
+ * that these alone may be lent. The image may be empty; no pointer may be null. Image and report must not overlap.
  */
 VIERTOMPU_CALL
 uint32_t viertompu_mend(uint8_t *image, size_t image_len, uint32_t report[VIERTOMPU_MEND_WORDS]);
-
-#define VIERTOMPU_SEARCH_LIMIT 8192 /* so many bytes from the image's start count for the header */
 
 /*
  * For boot code (samples/boot.c is an example without a C library):
@@ -187,8 +189,8 @@ uint32_t viertompu_mend(uint8_t *image, size_t image_len, uint32_t report[VIERTO
  * - Where the window is the memory itself, code, stack, plan and all that is lent must lie outside it: the library knows of
  *   the map, the kernel and its modules alone. A window at address 0 needs another mapping, since a pointer to it is null.
  * - It uses the SSE registers, so that CR4.OSFXSR must be set, and CR0.EM and CR0.TS clear; it uses neither x87, MMX nor AVX.
- * - A load takes about 7.9 KB of stack, a mend far less; it must be aligned to 16 bytes where the call is made, as the System V
- *   calls ask. Nothing is written below the stack pointer (no red zone), so that interrupts may run on the same stack if it has
+ * - A load takes about 7.9 KB of stack, a mend far less; the stack must be aligned to 16 bytes where the call is made, as the
+ *   System V calls ask. Nothing is written below the stack pointer (no red zone), so that interrupts may run on the same stack if it has
  *   room for them.
  */
 #define VIERTOMPU_STACK 8192        /* bytes of stack that are enough for a call, with room for memcpy and memset */

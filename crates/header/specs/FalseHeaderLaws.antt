@@ -2,16 +2,17 @@
 --     false-here, no-magic, no-room    the test at an offset
 --     false-below, false-anywhere      so many numbers k have a false header at 4k: below the header found, or in the searched part
 --     false-most                       at most 2,046
---     header-same, searched-part       what stands behind the searched part has no share in the answer
+--     header-same, searched-part, searched-cut
+--                                      what stands behind the searched part has no share in the answer
 -- Assumes nothing.
 use mathlib.Core.Path.{_≡_, ap, sym, _∙_}
 use mathlib.Core.Bool.{Bool, true, false, not, _&&_}
 use mathlib.Core.List.{List}
 use mathlib.Core.Logic.{_↔_, ⊎-elim}
-use Prim.Native.Nat.{ℕ, _+_, _*_, _/_, _%_, _≤_, _<_}
+use Prim.Native.Nat.{ℕ, _+_, _*_, _/_, _%_, _≤_, _<_, min}
 use native.Mathlib.Omega.{arith}
 use borrow.Author.Tests.{le-leb}
-use lib.Dec.{eqb, leb}
+use lib.Dec.{eqb}
 use lib.ListN.{length, take, length-take}
 use lib.Seq.{take-all}
 use Rattle.laws.specs.PassingLaws.{passing-most, passing-past, passing-same}
@@ -124,3 +125,14 @@ module _ (image : List ℕ) where
   pub searched-part : searched part ≡ searched image
   unfolding falseHeaders
   searched-part = rw (header-same, passing-same (isFalsePlace part) (isFalsePlace image) (λ k. false-same (4 * k)) (placesPassed (header image)))
+
+  -- the first n bytes are the searched part
+  cut : (n : ℕ) → n ≡ min (length image) searchLimit → take n image ≡ part
+  cut n e =
+      ⊎-elim
+      (λ (l : length image < searchLimit). take-all n image (omega arith) ∙ sym (take-all searchLimit image (omega arith)))
+      (λ (l : searchLimit ≤ length image). let q : n ≡ searchLimit = omega arith in ap (λ (k : ℕ). take k image) q)
+      (lt-or-le (length image) searchLimit)
+
+  pub searched-cut : (n : ℕ) → n ≡ min (length image) searchLimit → searched (take n image) ≡ searched image
+  searched-cut n e = ap searched (cut n e) ∙ searched-part

@@ -1,9 +1,10 @@
 -- What the header search answers, in propositions.
 --     word-take                       a word of the first bytes
+--     answers                         what the search says of all offsets
 --     header-lowest, lowest-header    the search finds o exactly where o is the lowest offset of a header
 --     header-none, none-header        it finds nothing exactly where there is no header
 -- Assumes nothing.
-use mathlib.Core.Path.{_≡_, refl, sym, ap, _∙_, subst}
+use mathlib.Core.Path.{_≡_, refl, sym, _∙_, subst}
 use mathlib.Core.Bool.{Bool, true, false, false≢true}
 use mathlib.Core.List.{List, [], _∷_}
 use mathlib.Core.Logic.{⊎-elim}

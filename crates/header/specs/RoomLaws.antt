@@ -1,5 +1,5 @@
 -- Laws of the room for a header at an offset.
---     room-is              12 bytes fit exactly where they do in the image and in its first 8,192 bytes
+--     room-is                 12 bytes fit exactly where they do in the image and in its first 8,192 bytes
 --     past-end, past-limit    where they do not
 -- Assumes nothing.
 use mathlib.Core.Path.{_≡_}

@@ -1,7 +1,7 @@
 // The search for a Multiboot header.
 use address::ImageOffset;
 ghost use mathlib.Core.Path.{_≡_};
-ghost use Prim.Native.Nat.{_+_, _^_, _≤_, _<_};
+ghost use Prim.Native.Nat.{_+_, _^_, _≤_, _<_, min};
 ghost use lib.Dec.{eqb};
 ghost use lib.ListN.{length};
 ghost use Rattle.number.specs.Number.{numberAt};
@@ -19,6 +19,11 @@ pub const STEP: usize = 4;
 
 // Magic, flags and checksum.
 pub const SHORT_HEADER: usize = 12;
+
+// Where flags and checksum stand in a header.
+pub const FLAGS: usize = 4;
+
+pub const CHECKSUM: usize = 8;
 
 // What the search for a header finds.
 pub enum Search {
@@ -45,8 +50,8 @@ fn sums_to_zero(s: &[u8], at: usize) -> bool
     ensures { λ r. ⌜ r ≡ sumIsZero (numberAt 4 (now (s .entry)) at) (numberAt 4 (now (s .entry)) (at + 4)) (numberAt 4 (now (s .entry)) (at + 8)) ⌝ }
 {
     let magic = number::read_u32(s, at);
-    let flags = number::read_u32(s, at + 4);
-    let checksum = number::read_u32(s, at + 8);
+    let flags = number::read_u32(s, at + FLAGS);
+    let checksum = number::read_u32(s, at + CHECKSUM);
     let sum = std::num::wrapping_add_u32(std::num::wrapping_add_u32(magic, flags), checksum);
     sum == 0
 }
@@ -81,9 +86,17 @@ fn first_header(s: &[u8]) -> Searched
 pub fn find_header(image: &[u8]) -> Searched
     ensures { λ r. ⌜ r ≡ searched (now (image .entry)) ⌝ }
 {
-    if image.len() <= SEARCH_LIMIT {
-        first_header(image)
+    let end = searched_end(image.len());
+    first_header(&image[..end])
+}
+
+// Where the searched part of an image of so many bytes ends.
+pub fn searched_end(len: usize) -> usize
+    ensures { λ r. ⌜ r ≡ min len searchLimit ⌝ }
+{
+    if len < SEARCH_LIMIT {
+        len
     } else {
-        first_header(&image[..SEARCH_LIMIT])
+        SEARCH_LIMIT
     }
 }

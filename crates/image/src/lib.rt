@@ -1,6 +1,7 @@
 // A Multiboot image: its header, and the kernel that it asks for by address fields or as an ELF image.
 use address::ImageOffset;
 use answer::Answer;
+use header::FLAGS;
 use header::Search;
 use kernel::FoundHeader;
 use kernel::Judged;
@@ -40,7 +41,7 @@ fn judge_header(image: &[u8], at: ImageOffset, passed: u32) -> Judged
     requires { ⌜ (header (now image) ≡ Search.At at) × (passed ≡ falseHeaders (now image)) ⌝ }
     ensures { λ r. ⌜ r ≡ judged (now (image .entry)) ⌝ }
 {
-    let flags = number::read_u32(image, at.0 + 4);
+    let flags = number::read_u32(image, at.0 + FLAGS);
     if check::unknown_request(flags) {
         return kernel::refused(Answer::UnknownRequest);
     }

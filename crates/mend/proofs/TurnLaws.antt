@@ -17,7 +17,7 @@ use Rattle.header.specs.declared.Search.the-variants.{At, Nothing}
 use Rattle.header.specs.Header.{headerMagic, searchLimit, shortHeader}
 use Rattle.header.specs.RoomLaws.{past-end, past-limit}
 use Rattle.mend.specs.Mend.{isMagicAt, isMagicPlace, lowestMagic}
-use Rattle.mend.specs.MagicLaws.{magic-here, no-magic, no-room, magic-found, magic-none}
+use Rattle.mend.specs.MagicLaws.{magic-here, no-magic, without-room, magic-found, magic-none}
 
 -- no place before the offset `at` has the magic; the searched part ends at `end`
 pub record Tried (image : List ℕ) (end at : ℕ) : Type 0 where
@@ -56,7 +56,7 @@ module _ {image : List ℕ} {end at : ℕ} (t : Tried image end at) where
         ⊎-elim
         (λ (m : 4 * j < at). t .none j m)
         (λ (m : at ≤ 4 * j).
-        no-room image (4 * j)
+        without-room image (4 * j)
         (⊎-elim
         (λ (n : length image < 4 * j + shortHeader). past-end image (4 * j) n)
         (λ (n : 4 * j + shortHeader ≤ length image). past-limit image (4 * j) (omega arith))

@@ -1,20 +1,21 @@
 -- Laws of the lowest magic of an image.
---     magic-here, no-magic, no-room    the test at an offset
---     lowest-magic                     what the search for it answers, in propositions
---     magic-found, magic-none          its answer from what is known of all places
---     magic-part                       what stands behind the searched part has no share in the answer
+--     magic-is, magic-here, no-magic, without-room    the test at an offset
+--     magic-kept                                      a magic in another list
+--     lowest-magic                                    what the search for it answers, in propositions
+--     magic-found, magic-none                         its answer from what is known of all places
+--     magic-part                                      what stands behind the searched part has no share in the answer
 -- Assumes nothing.
-use mathlib.Core.Path.{_≡_, refl, ap, sym, _∙_}
-use mathlib.Core.Bool.{Bool, true, false, false≢true, _&&_}
+use mathlib.Core.Path.{_≡_, ap, sym, _∙_}
+use mathlib.Core.Bool.{Bool, true, false, false≢true}
 use mathlib.Core.List.{List}
-use mathlib.Core.Logic.{_↔_, ⊎-elim}
+use mathlib.Core.Logic.{_↔_}
 use Prim.Native.Nat.{ℕ, _+_, _*_, _/_, _%_, _≤_, _<_, min}
 use native.Mathlib.Omega.{arith}
 use lib.Dec.{eqb}
 use lib.ListN.{length, take, length-take}
 use Rattle.laws.specs.First.{Found, none, at, first}
 use Rattle.laws.specs.FirstLaws.{Lowest, first-at, first-none, first-lowest}
-use Rattle.laws.specs.TestLaws.{lt-or-le, eqb-is, and-is}
+use Rattle.laws.specs.TestLaws.{eqb-is, and-is}
 use Rattle.laws.specs.CheckLaws.{and-both, and-fails-left, and-fails-right}
 use Rattle.number.specs.Number.{numberAt}
 use Rattle.header.specs.declared.Search.{Search}
@@ -51,9 +52,13 @@ module _ (image : List ℕ) (o : ℕ) where
   unfolding isMagicAt
   no-magic e = and-fails-right room marked e
 
-  pub no-room : room ≡ false → isMagicAt image o ≡ false
+  pub without-room : room ≡ false → isMagicAt image o ≡ false
   unfolding isMagicAt
-  no-room e = and-fails-left room marked e
+  without-room e = and-fails-left room marked e
+
+-- a magic stands in another list too that has its word and room for it
+pub magic-kept : {s t : List ℕ} {o : ℕ} → o + shortHeader ≤ length t → numberAt 4 t o ≡ numberAt 4 s o → MagicAt s o → MagicAt t o
+magic-kept l e m = record { multiple = m .multiple; whole = l; early = m .early; marked = e ∙ m .marked }
 
 module _ (image : List ℕ) where
   -- a magic passes the test of its place
@@ -90,23 +95,12 @@ module _ (image : List ℕ) where
   part = take searchLimit image
 
   to-part : (o : ℕ) → MagicAt image o → MagicAt part o
-  to-part o m =
-      record {
-        multiple = m .multiple;
-        whole = simp length-take (omega (arith, m .whole, m .early));
-        early = m .early;
-        marked = word-take searchLimit image o (omega (arith, m .early)) ∙ m .marked;
-      }
+  to-part o m = magic-kept (simp length-take (omega (arith, m .whole, m .early))) (word-take searchLimit image o (omega (arith, m .early))) m
 
   of-part : (o : ℕ) → MagicAt part o → MagicAt image o
   of-part o m =
       let l : o + shortHeader ≤ min searchLimit (length image) = simp length-take at (m .whole) in
-      record {
-        multiple = m .multiple;
-        whole = omega arith;
-        early = m .early;
-        marked = sym (word-take searchLimit image o (omega (arith, m .early))) ∙ m .marked;
-      }
+      magic-kept (omega arith) (sym (word-take searchLimit image o (omega (arith, m .early)))) m
 
   same-answer : (r : Search) → Answers (MagicAt part) r → Answers (MagicAt image) r
   same-answer Nothing h = λ o m. h o (to-part o m)

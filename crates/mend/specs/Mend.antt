@@ -28,6 +28,7 @@ isMagicAt image o = hasRoom image o && eqb (numberAt 4 image o) headerMagic
 abbrev pub isMagicPlace : List ℕ → ℕ → Bool
 isMagicPlace image k = isMagicAt image (4 * k)
 
+-- the offset of a place, if there is one
 abbrev pub placeOffset : Found → Search
 placeOffset none = Nothing
 placeOffset (at k) = At (record { 0 = 4 * k })
@@ -50,10 +51,11 @@ mendingBy image (At o) magic = HeaderFound
 mendingBy image Nothing (At o) = Mended (changeAt image o)
 mendingBy image Nothing Nothing = NoMagic
 
+-- the answer for an image
 unfoldable pub mendingOf : List ℕ → Mending
 mendingOf image = mendingBy image (header image) (lowestMagic image)
 
--- 26 where there is nothing to mend
+-- 26 where the magic stands nowhere
 abbrev pub mendNumber : Mending → ℕ
 mendNumber HeaderFound = 0
 mendNumber (Mended c) = 0
@@ -65,5 +67,6 @@ imageWith image HeaderFound = image
 imageWith image (Mended c) = patched image (c .offset .0 + 8) (numberBytes 4 (c .new))
 imageWith image NoMagic = image
 
+-- the image after its mend
 unfoldable pub imageAfter : List ℕ → List ℕ
 imageAfter image = imageWith image (mendingOf image)

@@ -1,16 +1,16 @@
 -- Laws of mending.
---     magic-early                    the lowest magic lies in the searched part
+--     magic-early                       the lowest magic lies in the searched part
 --     with-header, at-magic, nowhere    the three answers
---     after-is                       the image afterwards, by the answer
---     right-checksum                 the checksum is the one with which the sum is 0
---     mended-at                      what is promised where a checksum is mended
+--     after-is                          the image afterwards, by the answer
+--     right-checksum                    the checksum is the one with which the sum is 0
+--     mended-at                         what is promised where a checksum is mended
 -- Assumes nothing.
 use mathlib.Core.Path.{_≡_, refl, sym, ap, _∙_, subst}
 use mathlib.Core.List.{List, [], append-nil}
 use mathlib.Core.Logic.{⊎-elim}
-use Prim.Native.Nat.{ℕ, _+_, _%_, _^_, _≤_, _<_}
+use Prim.Native.Nat.{ℕ, _+_, _^_, _≤_, _<_}
 use native.Mathlib.Omega.{arith}
-use lib.ListN.{length, getD}
+use lib.ListN.{getD}
 use Rattle.laws.specs.TestLaws.{lt-or-le}
 use Rattle.buffer.specs.Patched.{patched}
 use Rattle.buffer.specs.PatchedLaws.{length-patched, getD-before, getD-behind}
@@ -24,7 +24,7 @@ use Rattle.header.specs.SearchLaws.{Answers}
 use Rattle.mend.specs.declared.Mending.{Mending}
 use Rattle.mend.specs.declared.Mending.the-variants.{HeaderFound, Mended, NoMagic}
 use Rattle.mend.specs.Mend.{lowestMagic, rightChecksum, changeAt, mendingOf, imageWith, imageAfter}
-use Rattle.mend.specs.MagicLaws.{lowest-magic}
+use Rattle.mend.specs.MagicLaws.{magic-kept, lowest-magic}
 use Rattle.mend.specs.Promises.{RightChecksum, MendedAt}
 
 module _ (image : List ℕ) where
@@ -82,22 +82,10 @@ module _ (image : List ℕ) (o k : ℕ) (m : MagicAt image o) where
 
   -- up to the checksum the magics are the image's
   magic-after : (p : ℕ) → p ≤ o → MagicAt image p → MagicAt after p
-  magic-after p l a =
-      record {
-        multiple = a .multiple;
-        whole = omega (arith, length-patched image (o + 8) (numberBytes 4 k), a .whole);
-        early = a .early;
-        marked = before p (omega arith) ∙ a .marked;
-      }
+  magic-after p l a = magic-kept (omega (arith, length-patched image (o + 8) (numberBytes 4 k), a .whole)) (before p (omega arith)) a
 
   magic-before : (p : ℕ) → p ≤ o → MagicAt after p → MagicAt image p
-  magic-before p l a =
-      record {
-        multiple = a .multiple;
-        whole = omega (arith, length-patched image (o + 8) (numberBytes 4 k), a .whole);
-        early = a .early;
-        marked = sym (before p (omega arith)) ∙ a .marked;
-      }
+  magic-before p l a = magic-kept (omega (arith, length-patched image (o + 8) (numberBytes 4 k), a .whole)) (sym (before p (omega arith))) a
 
 -- the lowest magic of an image without a header is mended
 pub mended-at : (image : List ℕ) (o : ImageOffset) → Answers (HeaderAt image) Nothing → Answers (MagicAt image) (At o)

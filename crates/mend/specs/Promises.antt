@@ -2,7 +2,8 @@
 --     RightChecksum    the one checksum with which magic and flags give 0
 --     MendedAt         what is promised where a checksum is mended
 --     MendPromised     what is promised of the answer r and the image v afterwards
--- The proof is in PromisesLaws.
+-- The proof is in PromisesLaws; so is that the header search on v finds the offset mended, and that a second run finds a header
+-- and changes nothing.
 -- Assumes nothing.
 use mathlib.Core.Path.{_≡_}
 use mathlib.Core.List.{List}
@@ -40,7 +41,7 @@ pub record MendedAt (image : List ℕ) (c : Change) (v : List ℕ) : Type 0 wher
 
 -- the answer r and the image v afterwards
 pub record MendPromised (image : List ℕ) (r : Mending) (v : List ℕ) : Type 0 where
-  -- a header is found exactly where there is one, and 26 is given exactly where the magic stands nowhere
+  -- a header is found exactly where there is one, and a mend is refused exactly where the magic stands nowhere
   pub found : (r ≡ HeaderFound) ↔ ((o : ℕ) × HeaderAt image o)
   pub none : (r ≡ NoMagic) ↔ ((o : ℕ) → MagicAt image o → ⊥)
   pub mended : (c : Change) → r ≡ Mended c → MendedAt image c v

@@ -1,19 +1,15 @@
 // Mending a checksum: where an image has no header, the lowest magic in it gets the checksum that makes it one.
 use address::ImageOffset;
+use header::CHECKSUM;
+use header::FLAGS;
 use header::HEADER_MAGIC;
-use header::SEARCH_LIMIT;
 use header::SHORT_HEADER;
 use header::STEP;
 use header::Search;
 ghost use mathlib.Core.Path.{_≡_};
-ghost use Prim.Native.Nat.{_+_, _^_, _<_, min};
-ghost use Rattle.header.specs.Header.{searchLimit, shortHeader};
+ghost use Prim.Native.Nat.{_+_, _^_, _<_};
+ghost use Rattle.header.specs.Header.{shortHeader};
 ghost use Rattle.mend.specs.Mend.{lowestMagic, rightChecksum, changeAt, mendingOf, imageAfter, mendNumber};
-
-// Where flags and checksum stand in a header.
-const FLAGS: usize = 4;
-
-const CHECKSUM: usize = 8;
 
 // A checksum that is mended: the header's offset, and the word before and after.
 pub struct Change {
@@ -46,7 +42,7 @@ pub fn mend(image: &mut [u8]) -> Mending
     mending
 }
 
-// The number of an answer: 26 where there is nothing to mend.
+// The number of an answer: 26 where the magic stands nowhere.
 pub fn number(mending: Mending) -> u32
     ensures { λ r. ⌜ r ≡ mendNumber mending ⌝ }
 {
@@ -77,7 +73,7 @@ fn decide(image: &[u8]) -> Mending
 fn lowest_magic(image: &[u8]) -> Search
     ensures { λ r. ⌜ r ≡ lowestMagic (now (image .entry)) ⌝ }
 {
-    let end = searched_end(image.len());
+    let end = header::searched_end(image.len());
     let mut at = 0;
     while SHORT_HEADER <= end - at {
         if header::has_magic(image, at) {
@@ -86,17 +82,6 @@ fn lowest_magic(image: &[u8]) -> Search
         at += STEP;
     }
     Search::Nothing
-}
-
-// Where the searched part of an image of so many bytes ends.
-fn searched_end(len: usize) -> usize
-    ensures { λ r. ⌜ r ≡ min len searchLimit ⌝ }
-{
-    if len < SEARCH_LIMIT {
-        len
-    } else {
-        SEARCH_LIMIT
-    }
 }
 
 // The checksum at the magic at an offset, as it stands and as it has to be.

@@ -1,4 +1,4 @@
--- What is promised of every call, in propositions for all addresses. Start here.
+-- What is promised of every load, in propositions for all addresses. Start here.
 --     Conditions, OfHeader, OfFields, OfLoad, OfElf
 --                                     the condition of each refusal
 --     Answered                        1. the first condition that holds gives the number; a refusal changes nothing

@@ -33,7 +33,7 @@ wordsPerSegment = 3
 abbrev pub wordsPerModule : ℕ
 wordsPerModule = 2
 
--- in a load every address and the header's offset are below 2^32
+-- in a load every address and the header's offset are below 2^32, and in a mend the offset is
 abbrev pub wordOf : ℕ → ℕ
 wordOf a = a % 2 ^ 32
 

@@ -129,7 +129,7 @@ fn write_modules(plan: &mut [u32; WORDS], modules: [Span; MAX_MODULES])
     }
 }
 
-// An address or an offset as a word. In a load each is below 2^32, so nothing is lost.
+// An address or an offset as a word. In a load and in a mend each is below 2^32, so nothing is lost.
 pub(crate) fn word(a: u64) -> u32
     ensures { λ r. ⌜ r ≡ wordOf a ⌝ }
 {

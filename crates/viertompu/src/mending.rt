@@ -4,7 +4,7 @@ ghost use mathlib.Core.Path.{_≡_};
 ghost use Rattle.mend.specs.Mend.{mendingOf, imageAfter, mendNumber};
 ghost use Rattle.viertompu.specs.MendWords.{mendWords};
 
-// How many words a mend has.
+// How many words the answer of a mend has.
 pub const MEND_WORDS: usize = 4;
 
 // Where they stand.
@@ -24,12 +24,12 @@ pub extern "C" fn viertompu_mend(image: &mut [u8], report: &mut [u32; MEND_WORDS
     ensures { λ _. ⌜ now (image .exit) ≡ imageAfter (now (image .entry)) ⌝ }
 {
     let mending = mend::mend(image);
-    write_words(report, mending);
+    write_mend(report, mending);
     mend::number(mending)
 }
 
 // Writes the words of an answer: zeros, where nothing was mended.
-fn write_words(report: &mut [u32; MEND_WORDS], mending: Mending)
+fn write_mend(report: &mut [u32; MEND_WORDS], mending: Mending)
     ensures { λ _. ⌜ now (report .exit) ≡ mendWords mending ⌝ }
 {
     *report = [0; MEND_WORDS];

@@ -109,7 +109,7 @@ pub fn load_words(
 }
 
 /// Mends the checksum at the lowest magic of an image that has no header, and changes no other
-/// byte; or tells that it has a header, or nothing to mend, and leaves it as it was.
+/// byte; or tells that it has a header, or no magic either, and leaves it as it was.
 ///
 /// The flags are not judged, and only the first 8,192 bytes count.
 ///

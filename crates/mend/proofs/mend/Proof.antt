@@ -1,6 +1,6 @@
 -- `mend::mend` meets its contract: what was decided is written, and nothing where nothing is to be mended.
 -- Assumes nothing.
-use mathlib.Core.Path.{_≡_, sym, _∙_}
+use mathlib.Core.Path.{sym, _∙_}
 use native.Mathlib.Omega.{arith}
 use borrow.Author.Needs.{needs}
 use Rattle.mend.specs.MendLaws.{after-is}

@@ -51,6 +51,11 @@ pub fn overlay(image: &mut [u8], at: usize, bytes: &[u8]) {
     }
 }
 
+/// Bytes that hold the magic in every word.
+pub fn magics(length: usize) -> Vec<u8> {
+    HEADER_MAGIC.to_le_bytes().into_iter().cycle().take(length).collect()
+}
+
 #[derive(Clone, Debug, Default)]
 pub struct Module {
     pub data: Vec<u8>,

@@ -5,7 +5,6 @@
 //!   bytes
 //! - [`review_board`]: the board of the review program
 //! - [`bench_cases`]: worked cases of the rules with what they must give
-//! - [`mend_cases`]: worked images for mending
 //! - [`rng`], [`generate`]: seeded random numbers, and the cases and images made of them
 
 pub mod bench_cases;
@@ -13,7 +12,6 @@ pub mod case;
 pub mod draft;
 pub mod elf;
 pub mod generate;
-pub mod mend_cases;
 pub mod pair;
 pub mod review_board;
 pub mod rng;

@@ -7,8 +7,8 @@ use Rattle.viertompu.proofs.mending.viertompu_mend.Tie as tie
 mend-requires : tie.Need-mend-requires
 mend-requires c κs = search needs
 
-write-words-requires : tie.Need-write-words-requires
-write-words-requires c κs = search needs
+write-mend-requires : tie.Need-write-mend-requires
+write-mend-requires c κs = search needs
 
 number-requires : tie.Need-number-requires
 number-requires c κs = search needs
@@ -21,4 +21,4 @@ returns c = (cc, (cc, cc))
 
 pub viertompu-mend-spec : {M : Type 1} → statement M
 viertompu-mend-spec =
-    tie.close (tie.spec mend-requires write-words-requires number-requires same-length returns)
+    tie.close (tie.spec mend-requires write-mend-requires number-requires same-length returns)

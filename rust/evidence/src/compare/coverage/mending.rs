@@ -41,7 +41,7 @@ impl fmt::Display for MendCoverage {
 
 /// The goals of an image: whether each answer is its, and those of its answer.
 fn goals(image: &[u8], outcome: &Outcome) -> Vec<Goal> {
-    let magics = magics(image);
+    let magics = magic_offsets(image);
     let answer = read_mend_words(outcome.number, &outcome.words);
     let mut goals = vec![
         ("a header found", answer == Ok(Mending::HeaderFound)),
@@ -50,7 +50,7 @@ fn goals(image: &[u8], outcome: &Outcome) -> Vec<Goal> {
     ];
     goals.extend(match answer {
         Ok(Mending::HeaderFound) => {
-            let first = magics.first().map(|&at| at as u64);
+            let first = magics.iter().find(|&at| at % 4 == 0).map(|&at| at as u64);
             vec![("a header found behind a magic", header_offset(image) > first)]
         }
         Ok(Mending::Mended { offset, old, new }) => {
@@ -62,7 +62,7 @@ fn goals(image: &[u8], outcome: &Outcome) -> Vec<Goal> {
 }
 
 /// The offsets at which the magic stands, whether a header may stand there or not.
-fn magics(image: &[u8]) -> Vec<usize> {
+fn magic_offsets(image: &[u8]) -> Vec<usize> {
     let words = image.windows(4).enumerate();
     words.filter(|(_, word)| *word == HEADER_MAGIC.to_le_bytes()).map(|(at, _)| at).collect()
 }

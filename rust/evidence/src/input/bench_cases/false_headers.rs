@@ -4,9 +4,8 @@ use super::{
     b1, bare, bytes, loads, on_board, plan, refused, BenchCase, B1_ENTRY, B1_IMAGE, FLAGS_0,
     FLAGS_10001,
 };
-use crate::input::draft::overlay;
+use crate::input::draft::{magics, overlay};
 use crate::rules::bytes::put_u32;
-use crate::rules::limits::HEADER_MAGIC;
 use crate::rules::offsets::header::{BSS_END_ADDR, HEADER_ADDR};
 use viertompu::{Plan, Refusal};
 
@@ -22,15 +21,10 @@ pub fn borders() -> Vec<BenchCase> {
 }
 
 /// An image of zeros with bytes at some offsets, the later ones over the earlier.
-fn image(length: usize, parts: &[(usize, &str)]) -> Vec<u8> {
+pub(super) fn image(length: usize, parts: &[(usize, &str)]) -> Vec<u8> {
     let mut image = vec![0; length];
     parts.iter().for_each(|&(at, part)| overlay(&mut image, at, &bytes(part)));
     image
-}
-
-/// An image that holds the magic in every word.
-fn magics(length: usize) -> Vec<u8> {
-    HEADER_MAGIC.to_le_bytes().into_iter().cycle().take(length).collect()
 }
 
 fn none(name: &str, image: &[u8], false_headers: u32) -> BenchCase {

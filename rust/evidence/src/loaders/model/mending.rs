@@ -2,10 +2,11 @@
 
 use super::kernel::{has_magic, header_offset, searched, word, CARRY, MAGIC};
 use crate::rules::offsets::header::{CHECKSUM, FLAGS};
+use crate::rules::MendAnswer;
 use viertompu::{Mending, NoMagic};
 
 /// What a mend answers for an image.
-pub fn mending(image: &[u8]) -> Result<Mending, NoMagic> {
+pub fn mending(image: &[u8]) -> MendAnswer {
     if header_offset(image).is_some() {
         return Ok(Mending::HeaderFound);
     }
@@ -16,7 +17,7 @@ pub fn mending(image: &[u8]) -> Result<Mending, NoMagic> {
 }
 
 /// The byte that stands at an offset inside an image after a mend with this answer.
-pub fn byte_after(image: &[u8], answer: Result<Mending, NoMagic>, offset: usize) -> u8 {
+pub fn byte_after(image: &[u8], answer: MendAnswer, offset: usize) -> u8 {
     new_byte(answer, offset as u64).unwrap_or(image[offset])
 }
 
@@ -27,7 +28,7 @@ fn right_checksum(image: &[u8], offset: u64) -> u64 {
 }
 
 /// The byte of the new checksum that belongs at an offset, if one does.
-fn new_byte(answer: Result<Mending, NoMagic>, offset: u64) -> Option<u8> {
+fn new_byte(answer: MendAnswer, offset: u64) -> Option<u8> {
     let Ok(Mending::Mended { offset: header, new, .. }) = answer else { return None };
     let checksum = u64::from(header) + CHECKSUM as u64;
     let mut written = (checksum..).zip(new.to_le_bytes());

@@ -4,10 +4,11 @@ use super::kernel::{adds_up, magic_offsets};
 use crate::rules::bytes::{put_u32, u32_at};
 use crate::rules::limits::HEADER_MAGIC;
 use crate::rules::offsets::header;
+use crate::rules::MendAnswer;
 use viertompu::{Mending, NoMagic};
 
 /// Gives the lowest false header the right checksum, unless the image has a header.
-pub fn mend(image: &mut [u8]) -> Result<Mending, NoMagic> {
+pub fn mend(image: &mut [u8]) -> MendAnswer {
     let magics = magic_offsets(image);
     if magics.iter().any(|&at| adds_up(image, at)) {
         return Ok(Mending::HeaderFound);

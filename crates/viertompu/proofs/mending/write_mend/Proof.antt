@@ -1,10 +1,10 @@
--- `viertompu::mending::write_words` meets its contract: zeros, and over them the words of a change.
+-- `viertompu::mending::write_mend` meets its contract: zeros, and over them the words of a change.
 -- Assumes nothing.
-use mathlib.Core.Path.{sym, ap, _∙_}
+use mathlib.Core.Path.{sym, ap}
 use borrow.Author.Needs.{needs}
 use Rattle.viertompu.specs.MendWords.{mendWords}
-use Rattle.viertompu.proofs.mending.write_words.Statement.{statement}
-use Rattle.viertompu.proofs.mending.write_words.Tie as tie
+use Rattle.viertompu.proofs.mending.write_mend.Statement.{statement}
+use Rattle.viertompu.proofs.mending.write_mend.Tie as tie
 
 enum-told : tie.Need-enum-told
 enum-told c = search needs
@@ -42,8 +42,8 @@ returns-3 : tie.Need-returns-3
 unfolding mendWords
 returns-3 c = sym (ap mendWords (c .enum-told2 .given .1))
 
-pub write-words-spec : {M : Type 1} → statement M
-write-words-spec =
+pub write-mend-spec : {M : Type 1} → statement M
+write-mend-spec =
     tie.close
     (tie.spec
     enum-told

@@ -1,8 +1,8 @@
-//! Worked images for mending, with the answer each must give. The expected numbers are written here
-//! by hand; no mender made them.
+//! Images to be mended: magics with wrong sums at several offsets, in each other's bytes, at the
+//! borders of what is searched, and with flags of all kinds.
 
-use crate::input::case::unhex;
-use crate::input::draft::overlay;
+use super::false_headers::image;
+use crate::input::draft::magics;
 use crate::rules::limits::HEADER_MAGIC;
 use crate::rules::MendAnswer;
 use viertompu::{Mending, NoMagic};
@@ -20,22 +20,8 @@ const RIGHT: &str = "02 B0 AD 1B 01 00 01 00 FD 4F 51 E4";
 /// Three magics in a row.
 const THREE: &str = "02 B0 AD 1B 02 B0 AD 1B 02 B0 AD 1B";
 
-pub fn cases() -> Vec<MendCase> {
+pub fn images_to_mend() -> Vec<MendCase> {
     [alone(), several(), at_the_borders(), with_flags()].into_iter().flatten().collect()
-}
-
-/// An image of zeros with bytes at some offsets, the later ones over the earlier.
-fn image(length: usize, parts: &[(usize, &str)]) -> Vec<u8> {
-    let mut image = vec![0; length];
-    for &(at, part) in parts {
-        overlay(&mut image, at, &unhex(part).expect("the digits are in order"));
-    }
-    image
-}
-
-/// An image that holds the magic in every word.
-fn magics(length: usize) -> Vec<u8> {
-    HEADER_MAGIC.to_le_bytes().into_iter().cycle().take(length).collect()
 }
 
 fn found(name: &'static str, image: Vec<u8>) -> MendCase {
@@ -60,9 +46,9 @@ fn alone() -> Vec<MendCase> {
         found("a header alone", image(12, &[(0, RIGHT)])),
         patched_at("a patched header at 0", image(12, &[(0, PATCHED)]), 0),
         patched_at("a patched header at 64", image(96, &[(64, PATCHED)]), 64),
-        refused("no byte", vec![]),
-        refused("11 bytes", image(11, &[(0, PATCHED)])),
-        refused("64 zeros", vec![0; 64]),
+        refused("an image of no byte", vec![]),
+        refused("an image of 11 bytes", image(11, &[(0, PATCHED)])),
+        refused("an image of zeros", vec![0; 64]),
         refused("a patched header at 2", image(64, &[(2, PATCHED)])),
     ]
 }
@@ -88,7 +74,7 @@ fn at_the_borders() -> Vec<MendCase> {
         patched_at("a patched header at the end", image(64, &[(52, PATCHED)]), 52),
         refused("a patched header at 8,184", image(9000, &[(8184, PATCHED)])),
         refused("a header at 8,184", image(9000, &[(8184, RIGHT)])),
-        refused("one that the image's end cuts off", image(63, &[(52, PATCHED)])),
+        refused("a patched header that the end cuts off", image(63, &[(52, PATCHED)])),
         patched_at(
             "8,180 and a header behind",
             image(9000, &[(8180, PATCHED), (8192, RIGHT)]),
