@@ -34,10 +34,10 @@ extern "C" {
  *     bss_end_addr, entry_addr
  *     the load offset           in the image: the header's offset - (header_addr - load_addr)
  *     the load end              load_end_addr; where that is 0, load_addr plus the bytes of the image from the load offset on
- *     a segment                 a stretch of the kernel: load bytes, and zeros behind them. With address fields there is one: the load
- *                               bytes go from load_addr up to the load end, the zeros up to bss_end_addr. In an ELF image it is a
- *                               loadable program header (type 1) whose memory size is not 0: its file bytes go to its physical
- *                               address, zeros follow up to its memory size
+ *     a segment                 a stretch of the kernel: load bytes, and zeros behind them. With address fields there is one: the
+ *                               load bytes go from load_addr up to the load end, the zeros up to bss_end_addr. In an ELF image it
+ *                               is a loadable program header (type 1) whose memory size is not 0: its file bytes go to its
+ *                               physical address, zeros follow up to its memory size
  *     the ELF mark              the bytes 7F 45 4C 46, with which an ELF image begins; where flag bit 16 is set, the address fields
  *                               decide in an ELF image too
  *     the table, an entry       the program headers of an ELF image, of every type; one of them
@@ -190,8 +190,8 @@ uint32_t viertompu_mend(uint8_t *image, size_t image_len, uint32_t report[VIERTO
  *   the map, the kernel and its modules alone. A window at address 0 needs another mapping, since a pointer to it is null.
  * - It uses the SSE registers, so that CR4.OSFXSR must be set, and CR0.EM and CR0.TS clear; it uses neither x87, MMX nor AVX.
  * - A load takes about 7.9 KB of stack, a mend far less; the stack must be aligned to 16 bytes where the call is made, as the
- *   System V calls ask. Nothing is written below the stack pointer (no red zone), so that interrupts may run on the same stack if it has
- *   room for them.
+ *   System V calls ask. Nothing is written below the stack pointer (no red zone), so that interrupts may run on the same stack
+ *   if it has room for them.
  */
 #define VIERTOMPU_STACK 8192        /* bytes of stack that are enough for a call, with room for memcpy and memset */
 

@@ -45,7 +45,8 @@ fn generated_images_reach_every_goal_and_all_menders_agree() {
         let image = generate::image(1, index);
         let outcome = run(by_second, &image);
         coverage.record(&image, &outcome);
-        check(&image, &outcome).unwrap_or_else(|what| panic!("seed 1 index {index}: {what}"));
+        check(&image, &outcome)
+            .unwrap_or_else(|what| panic!("generate::image(1, {index}): {what}"));
     }
     print!("{coverage}");
     assert_eq!(coverage.gaps(), [""; 0]);
