@@ -1,6 +1,7 @@
 -- Laws of a row of writes.
 --     length-written     the length is kept
 --     written-append     a row of writes goes on where its first part ends
+--     patched-outside    a byte that a write does not reach is as it was
 --     written-outside    a byte that no write reaches is as it was
 --     written-inside     a byte that a write reaches, and none behind it, is that write's
 -- Assumes nothing.
@@ -35,7 +36,7 @@ written-append d [] ws = refl
 written-append d (x ∷ vs) ws = written-append (patched d (x .at) (x .bytes)) vs ws
 
 -- a byte that a write does not reach
-patched-outside : (d : List ℕ) (x : Write) (i z : ℕ) → (Reaches x i → ⊥) → getD (patched d (x .at) (x .bytes)) i z ≡ getD d i z
+pub patched-outside : (d : List ℕ) (x : Write) (i z : ℕ) → (Reaches x i → ⊥) → getD (patched d (x .at) (x .bytes)) i z ≡ getD d i z
 patched-outside d x i z h =
     ⊎-elim
     (λ (l : i < x .at). getD-before d (x .at) (x .bytes) i z l)

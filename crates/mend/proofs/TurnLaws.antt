@@ -9,15 +9,17 @@ use mathlib.Core.List.{List}
 use mathlib.Core.Logic.{⊎-elim}
 use Prim.Native.Nat.{ℕ, _+_, _*_, _/_, _%_, _≤_, _<_, min}
 use native.Mathlib.Omega.{arith}
+use borrow.Author.Tests.{eqb-true}
 use lib.Dec.{eqb}
 use lib.ListN.{length}
 use Rattle.laws.specs.TestLaws.{lt-or-le}
 use Rattle.number.specs.Number.{numberAt}
 use Rattle.header.specs.declared.Search.the-variants.{At, Nothing}
 use Rattle.header.specs.Header.{headerMagic, searchLimit, shortHeader}
+use Rattle.header.specs.HeaderAt.{MagicAt}
 use Rattle.header.specs.RoomLaws.{past-end, past-limit}
 use Rattle.mend.specs.Mend.{isMagicAt, isMagicPlace, lowestMagic}
-use Rattle.mend.specs.MagicLaws.{magic-here, no-magic, without-room, magic-found, magic-none}
+use Rattle.mend.specs.MagicLaws.{magic-is, no-magic, without-room, magic-found, magic-none}
 
 -- no place before the offset `at` has the magic; the searched part ends at `end`
 pub record Tried (image : List ℕ) (end at : ℕ) : Type 0 where
@@ -44,7 +46,8 @@ module _ {image : List ℕ} {end at : ℕ} (t : Tried image end at) where
     pub tried-found : at + shortHeader ≤ end → eqb (numberAt 4 image at) headerMagic ≡ true → At (record { 0 = at }) ≡ lowestMagic image
     tried-found l e =
         let q : at ≡ 4 * (at / 4) = omega (arith, t .multiple) in
-        let here = magic-here image at (omega arith) (omega arith) e in
+        let m : MagicAt image at = record { multiple = t .multiple; whole = omega arith; early = omega arith; marked = eqb-true _ _ e } in
+        let here = magic-is image at (t .multiple) .1 m in
         ap (λ (o : ℕ). At (record { 0 = o })) q
         ∙ magic-found image (at / 4) (rw (← q) here) (λ j m. t .none j (omega arith))
 

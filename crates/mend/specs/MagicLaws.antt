@@ -1,9 +1,9 @@
 -- Laws of the lowest magic of an image.
---     magic-is, magic-here, no-magic, without-room    the test at an offset
---     magic-kept                                      a magic in another list
---     lowest-magic                                    what the search for it answers, in propositions
---     magic-found, magic-none                         its answer from what is known of all places
---     magic-part                                      what stands behind the searched part has no share in the answer
+--     magic-is, no-magic, without-room    the test at an offset
+--     magic-kept                          a magic in another list
+--     lowest-magic                        what the search for it answers, in propositions
+--     magic-found, magic-none             its answer from what is known of all places
+--     magic-part                          what stands behind the searched part has no share in the answer
 -- Assumes nothing.
 use mathlib.Core.Path.{_≡_, ap, sym, _∙_}
 use mathlib.Core.Bool.{Bool, true, false, false≢true}
@@ -16,7 +16,7 @@ use lib.ListN.{length, take, length-take}
 use Rattle.laws.specs.First.{Found, none, at, first}
 use Rattle.laws.specs.FirstLaws.{Lowest, first-at, first-none, first-lowest}
 use Rattle.laws.specs.TestLaws.{eqb-is, and-is}
-use Rattle.laws.specs.CheckLaws.{and-both, and-fails-left, and-fails-right}
+use Rattle.laws.specs.CheckLaws.{and-fails-left, and-fails-right}
 use Rattle.number.specs.Number.{numberAt}
 use Rattle.header.specs.declared.Search.{Search}
 use Rattle.header.specs.declared.Search.the-variants.{At, Nothing}
@@ -43,10 +43,6 @@ module _ (image : List ℕ) (o : ℕ) where
         λ t. let r = is .0 t in record { multiple = z; whole = r .0 .0; early = r .0 .1; marked = r .1 },
         λ m. is .1 ((m .whole, m .early), m .marked),
       )
-
-  pub magic-here : o + shortHeader ≤ length image → o + shortHeader ≤ searchLimit → marked ≡ true → isMagicAt image o ≡ true
-  unfolding isMagicAt
-  magic-here l m e = and-both room marked (room-is image o .1 (l, m)) e
 
   pub no-magic : marked ≡ false → isMagicAt image o ≡ false
   unfolding isMagicAt

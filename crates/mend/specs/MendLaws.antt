@@ -7,13 +7,12 @@
 -- Assumes nothing.
 use mathlib.Core.Path.{_≡_, refl, sym, ap, _∙_, subst}
 use mathlib.Core.List.{List, [], append-nil}
-use mathlib.Core.Logic.{⊎-elim}
 use Prim.Native.Nat.{ℕ, _+_, _^_, _≤_, _<_}
 use native.Mathlib.Omega.{arith}
 use lib.ListN.{getD}
-use Rattle.laws.specs.TestLaws.{lt-or-le}
 use Rattle.buffer.specs.Patched.{patched}
-use Rattle.buffer.specs.PatchedLaws.{length-patched, getD-before, getD-behind}
+use Rattle.buffer.specs.PatchedLaws.{length-patched}
+use Rattle.buffer.specs.WritesLaws.{patched-outside}
 use Rattle.number.specs.Number.{numberAt, numberBytes}
 use Rattle.number.specs.NumberLaws.{length-numberBytes, number-written, numberAt-before, numberAt-inside}
 use Rattle.address.specs.declared.ImageOffset.{ImageOffset}
@@ -71,14 +70,8 @@ module _ (image : List ℕ) (o k : ℕ) (m : MagicAt image o) where
 
   kept : (i : ℕ) → (o + 8 ≤ i → i < o + 12 → ⊥) → getD after i 0 ≡ getD image i 0
   kept i out =
-      ⊎-elim
-      (λ (l : i < o + 8). getD-before image (o + 8) (numberBytes 4 k) i 0 l)
-      (λ (l : o + 8 ≤ i).
-      ⊎-elim
-      (λ (n : i < o + 12). absurd (out l n))
-      (λ (n : o + 12 ≤ i). getD-behind image (o + 8) (numberBytes 4 k) i 0 (omega (arith, length-numberBytes 4 k)))
-      (lt-or-le i (o + 12)))
-      (lt-or-le i (o + 8))
+      let n = length-numberBytes 4 k in
+      patched-outside image (record { at = o + 8; bytes = numberBytes 4 k }) i 0 (λ r. out (r .0) (omega (arith, n, r .1)))
 
   -- up to the checksum the magics are the image's
   magic-after : (p : ℕ) → p ≤ o → MagicAt image p → MagicAt after p
