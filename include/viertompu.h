@@ -24,7 +24,8 @@ extern "C" {
  *
  *     the map, a pair           the memory map, below; the addresses from base up to base + length
  *     usable                    below 2^32, in a pair of type 1 and in no pair of another type
- *     the window, open          the addresses from `first` on that the buffer `window` stands for; usable and in the window
+ *     the window                the addresses from `first` on that the buffer `window` stands for
+ *     open                      usable, in the window, and not below 0x500, where the interrupt vectors and the BIOS data area lie
  *     the top                   0xFFFFF000
  *     the header                Multiboot's: magic 0x1BADB002, flags and checksum, which add up to 0 in 32 bits, at the lowest
  *                               multiple of 4 where they stand inside the image's first 8,192 bytes
@@ -160,9 +161,9 @@ static inline const char *viertompu_reason(uint32_t number)
 
 /*
  * Loads a submission into the window, which stands for physical memory from the address `first` on, and returns
- * VIERTOMPU_LOAD; or returns the number of the first check that applies, and leaves the window as it was. All words of the
- * plan are written. Where the operator's line is empty, the submission's command line is in force. A buffer may be empty; no
- * pointer may be null. Window and plan must overlap nothing else.
+ * VIERTOMPU_LOAD; or returns the number of the first check that applies, and leaves the window as it was. No byte of the window
+ * below 0x500 is ever written. All words of the plan are. Where the operator's line is empty, the submission's command line is
+ * in force. A buffer may be empty; no pointer may be null. Window and plan must overlap nothing else.
  */
 VIERTOMPU_CALL
 uint32_t viertompu_load(const uint8_t *submission, size_t submission_len,
@@ -187,7 +188,8 @@ uint32_t viertompu_mend(uint8_t *image, size_t image_len, uint32_t report[VIERTO
  *   place. It needs memcpy and memset from you, by System V's calls, and nothing else: no other symbol, no heap, no thread-local
  *   storage, no system call. It keeps no state.
  * - Where the window is the memory itself, code, stack, plan and all that is lent must lie outside it: the library knows of
- *   the map, the kernel and its modules alone. A window at address 0 needs another mapping, since a pointer to it is null.
+ *   the map, the kernel and its modules alone. A window at address 0 needs another mapping, since a pointer to it is null; one
+ *   from 0x500 up to the same end gives the same answer and plan, as nothing below 0x500 is open.
  * - It uses the SSE registers, so that CR4.OSFXSR must be set, and CR0.EM and CR0.TS clear; it uses neither x87, MMX nor AVX.
  * - A load takes about 7.9 KB of stack, a mend far less; the stack must be aligned to 16 bytes where the call is made, as the
  *   System V calls ask. Nothing is written below the stack pointer (no red zone), so that interrupts may run on the same stack

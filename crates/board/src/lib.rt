@@ -1,4 +1,4 @@
-// The memory that a load may write: what the memory map makes usable, inside the window.
+// The memory that a load may write: what the memory map makes usable, inside the window, past interrupt vectors and BIOS data.
 use address::PhysAddr;
 use address::Span;
 use memory_map::MemoryMap;
@@ -10,27 +10,35 @@ ghost use Rattle.board.specs.OpenEdge.{openEdge};
 
 pub mod window;
 
+// The interrupt vectors and the BIOS data area lie below this address.
+const BIOS_DATA_END: u64 = 0x500;
+
 // A memory map, and the window that stands for physical memory.
 pub struct Board {
     pub map: MemoryMap,
     pub window: Span,
 }
 
-// Whether the address is open: usable and inside the window.
+// Whether the address is open: usable, inside the window, and not below the end of the BIOS data area.
 pub fn is_open(board: Board, a: PhysAddr) -> bool
     ensures { λ r. ⌜ r ≡ isOpen board (a .0) ⌝ }
 {
+    if a.0 < BIOS_DATA_END {
+        return false;
+    }
     if !board.window.contains(a) {
         return false;
     }
     usable::is_usable(board.map, a)
 }
 
-// The nearest edge of the window or a pair past x, at most the window's end: up to it all addresses are open, or none is.
+// The nearest edge of the window, the BIOS data area or a pair past x, at most the window's end: up to it all addresses are
+// open, or none is.
 pub fn open_edge(board: Board, x: PhysAddr) -> PhysAddr
     ensures { λ r. ⌜ r .0 ≡ openEdge board (x .0) ⌝ }
 {
-    let e = edge::nearer(x, board.window.end, board.window.start);
+    let of_window = edge::nearer(x, board.window.end, board.window.start);
+    let e = edge::nearer(x, of_window, PhysAddr(BIOS_DATA_END));
     usable::map_edge(board.map, x, e)
 }
 

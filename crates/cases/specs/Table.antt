@@ -1,4 +1,4 @@
--- Worked examples: what is lent, and what must come out of it, in the plan and in a window of zeros from 0x100000 on.
+-- Worked examples: what is lent, and what must come out of it, in the plan and in a window of zeros.
 --     Input, lentOf, windowOf    what is lent: a submission, a memory map and a window                rule: REVIEW
 --     Outcome, columns           what comes out: the answer, the plan, and what the kernel is handed and reads
 --     refusal                    what comes out of a refusal
@@ -25,7 +25,8 @@ use Rattle.decision.specs.Decision.{decisionOf}
 use Rattle.loader.specs.Memory.{memoryAfter}
 
 -- an image of so many bytes with a header's words at an offset and zeros elsewhere; whether the module `hello` comes with it,
--- and how long its string is; how long are the command line, the usable memory from 0 on, and the window
+-- and how long its string is; how long are the command line and the usable memory from 0 on; where the window begins, and how
+-- long it is
 pub record Input : Type 0 where
   pub bytes : ℕ
   pub place : ℕ
@@ -34,6 +35,7 @@ pub record Input : Type 0 where
   pub string : ℕ
   pub line : ℕ
   pub low : ℕ
+  pub first : ℕ
   pub window : ℕ
 
 abbrev pub imageOf : Input → List ℕ
@@ -66,7 +68,7 @@ abbrev pub boardOf : Input → List ℕ
 boardOf input = wordBytes (20 ∷ 0 ∷ 0 ∷ input .low ∷ 0 ∷ 1 ∷ 20 ∷ 0x100000 ∷ 0 ∷ 0x700000 ∷ 0 ∷ 1 ∷ [])
 
 abbrev pub lentOf : Input → Lent
-lentOf input = record { submission = submissionOf input; operator = []; map = boardOf input; first = 0x100000; size = input .window }
+lentOf input = record { submission = submissionOf input; operator = []; map = boardOf input; first = input .first; size = input .window }
 
 abbrev pub windowOf : Input → List ℕ
 windowOf input = zeros (input .window)
@@ -109,11 +111,11 @@ stretchOf k i =
     let s = segmentNo k i in
     record { offset = s .offset .0; start = s .start .0; loadEnd = s .«load_end» .0; extentEnd = s .«extent_end» .0 }
 
--- the columns of a decision, where the window from 0x100000 on holds w
-unfoldable pub columns : Decision → List ℕ → Outcome
-columns d w =
+-- the columns of a decision, where the window holds w from its first address on
+unfoldable pub columns : ℕ → Decision → List ℕ → Outcome
+columns first d w =
     let hello = spanNo (d .plan .modules) 0 in
-    let block = drop (d .plan .ebx - 0x100000) w in
+    let block = drop (d .plan .ebx - first) w in
     record {
       number = numberOf (d .answer);
       item = itemOf (d .answer);
@@ -132,12 +134,12 @@ columns d w =
         flags = numberAt 4 block 0;
         memLower = numberAt 4 block 4;
         memUpper = numberAt 4 block 8;
-        name = take 8 (drop (numberAt 4 block 64 - 0x100000) w);
+        name = take 8 (drop (numberAt 4 block 64 - first) w);
       };
     }
 
 abbrev pub outcomeOf : Input → Outcome
-outcomeOf input = columns (decisionOf (lentOf input)) (memoryAfter (lentOf input) (windowOf input))
+outcomeOf input = columns (input .first) (decisionOf (lentOf input)) (memoryAfter (lentOf input) (windowOf input))
 
 pub record Row : Type 0 where
   pub input : Input
@@ -167,6 +169,10 @@ refusal number item = record {
 abbrev loading : ℕ → ℕ → ℕ → ℕ → List ℕ
 loading addr end bss entry = headerMagic ∷ 0x00010001 ∷ 0xE4514FFD ∷ addr ∷ 0x100000 ∷ end ∷ bss ∷ entry ∷ 0xF4F4F4F4 ∷ 0xF4F4F4F4 ∷ []
 
+-- a header by itself that loads to an address, and is entered there
+abbrev alone : ℕ → List ℕ
+alone start = headerMagic ∷ 0x00010000 ∷ 0xE4514FFE ∷ start ∷ start ∷ 0 ∷ 0 ∷ start ∷ []
+
 -- an ELF image of 136 bytes, by its type and machine, its entry, and the second segment's start and file size: the ELF header,
 -- two program headers, which begin with type, offset, virtual and physical address, file and memory size, and behind them a
 -- header without address fields and eight bytes of code
@@ -185,75 +191,80 @@ shelf = 0x73 ∷ 0x68 ∷ 0x65 ∷ 0x6C ∷ 0x66 ∷ 0x20 ∷ 0x31 ∷ 0 ∷ []
 -- searched, and the magic in every word, the last two without room
 unfoldable pub longRows : List Row
 longRows =
-    record { bytes = 9000; place = 8184; words = headerMagic ∷ 0 ∷ 0xE4524FFE ∷ []; hello = false; string = 0; line = 0; low = 0x9FC00; window = 0xC000 } yields refusal 6 0
-    ∷ record { bytes = 8192; place = 0; words = replicate 2048 headerMagic; hello = false; string = 0; line = 0; low = 0x9FC00; window = 0xC000 } yields refusal 6 2046
+    record { bytes = 9000; place = 8184; words = headerMagic ∷ 0 ∷ 0xE4524FFE ∷ []; hello = false; string = 0; line = 0; low = 0x9FC00; first = 0x100000; window = 0xC000 } yields refusal 6 0
+    ∷ record { bytes = 8192; place = 0; words = replicate 2048 headerMagic; hello = false; string = 0; line = 0; low = 0x9FC00; first = 0x100000; window = 0xC000 } yields refusal 6 2046
     ∷ []
 
 unfoldable pub shortRows : List Row
 shortRows =
     -- flags 0 has the checksum 0xE4524FFE, and 0x00010001 has 0xE4514FFD: headers, but without address fields, or cut off
-    record { bytes = 12; place = 0; words = headerMagic ∷ 0 ∷ 0xE4524FFE ∷ []; hello = false; string = 0; line = 0; low = 0x9FC00; window = 0xC000 } yields refusal 8 0
-    ∷ record { bytes = 12; place = 0; words = headerMagic ∷ 0x00010001 ∷ 0xE4514FFD ∷ []; hello = false; string = 0; line = 0; low = 0x9FC00; window = 0xC000 } yields refusal 9 0
+    record { bytes = 12; place = 0; words = headerMagic ∷ 0 ∷ 0xE4524FFE ∷ []; hello = false; string = 0; line = 0; low = 0x9FC00; first = 0x100000; window = 0xC000 } yields refusal 8 0
+    ∷ record { bytes = 12; place = 0; words = headerMagic ∷ 0x00010001 ∷ 0xE4514FFD ∷ []; hello = false; string = 0; line = 0; low = 0x9FC00; first = 0x100000; window = 0xC000 } yields refusal 9 0
     -- undefined flag bits, where there are no address fields either, and with a sum of 2^33
-    ∷ record { bytes = 12; place = 0; words = headerMagic ∷ 0x00020000 ∷ 0xE4504FFE ∷ []; hello = false; string = 0; line = 0; low = 0x9FC00; window = 0xC000 } yields refusal 25 0
-    ∷ record { bytes = 12; place = 0; words = headerMagic ∷ 0xFFFF0001 ∷ 0xE4534FFD ∷ []; hello = false; string = 0; line = 0; low = 0x9FC00; window = 0xC000 } yields refusal 25 0
+    ∷ record { bytes = 12; place = 0; words = headerMagic ∷ 0x00020000 ∷ 0xE4504FFE ∷ []; hello = false; string = 0; line = 0; low = 0x9FC00; first = 0x100000; window = 0xC000 } yields refusal 25 0
+    ∷ record { bytes = 12; place = 0; words = headerMagic ∷ 0xFFFF0001 ∷ 0xE4534FFD ∷ []; hello = false; string = 0; line = 0; low = 0x9FC00; first = 0x100000; window = 0xC000 } yields refusal 25 0
     -- the last place that is searched
-    ∷ record { bytes = 9000; place = 8180; words = headerMagic ∷ 0 ∷ 0xE4524FFE ∷ []; hello = false; string = 0; line = 0; low = 0x9FC00; window = 0xC000 } yields refusal 8 0
+    ∷ record { bytes = 9000; place = 8180; words = headerMagic ∷ 0 ∷ 0xE4524FFE ∷ []; hello = false; string = 0; line = 0; low = 0x9FC00; first = 0x100000; window = 0xC000 } yields refusal 8 0
     -- three false headers in each other's bytes, and one more without room; one before a header
-    ∷ record { bytes = 20; place = 0; words = headerMagic ∷ headerMagic ∷ headerMagic ∷ headerMagic ∷ []; hello = false; string = 0; line = 0; low = 0x9FC00; window = 0xC000 } yields refusal 6 3
-    ∷ record { bytes = 56; place = 0; words = headerMagic ∷ 0 ∷ 0 ∷ 0 ∷ loading 0x100010 0 0 0x100020; hello = false; string = 0; line = 0; low = 0x9FC00; window = 0xC000 }
+    ∷ record { bytes = 20; place = 0; words = headerMagic ∷ headerMagic ∷ headerMagic ∷ headerMagic ∷ []; hello = false; string = 0; line = 0; low = 0x9FC00; first = 0x100000; window = 0xC000 } yields refusal 6 3
+    ∷ record { bytes = 56; place = 0; words = headerMagic ∷ 0 ∷ 0 ∷ 0 ∷ loading 0x100010 0 0 0x100020; hello = false; string = 0; line = 0; low = 0x9FC00; first = 0x100000; window = 0xC000 }
     yields loaded
     (record { falseHeaders = 1; segments = stretch 0 0x100000 0x100038 0x100038 ∷ []; entry = 0x100020; moduleStart = 0; moduleEnd = 0; blockStart = 0x100038; blockEnd = 0x1000C8 })
     (record { eax = 0x2BADB002; ebx = 0x100038; flags = 0x249; memLower = 639; memUpper = 7168; name = shelf })
     -- a load that begins with the image, and one that would begin before it
-    ∷ record { bytes = 56; place = 16; words = loading 0x100010 0 0 0x100020; hello = false; string = 0; line = 0; low = 0x9FC00; window = 0xC000 }
+    ∷ record { bytes = 56; place = 16; words = loading 0x100010 0 0 0x100020; hello = false; string = 0; line = 0; low = 0x9FC00; first = 0x100000; window = 0xC000 }
     yields loaded
     (record { falseHeaders = 0; segments = stretch 0 0x100000 0x100038 0x100038 ∷ []; entry = 0x100020; moduleStart = 0; moduleEnd = 0; blockStart = 0x100038; blockEnd = 0x1000C8 })
     (record { eax = 0x2BADB002; ebx = 0x100038; flags = 0x249; memLower = 639; memUpper = 7168; name = shelf })
-    ∷ record { bytes = 56; place = 12; words = loading 0x100010 0 0 0x100020; hello = false; string = 0; line = 0; low = 0x9FC00; window = 0xC000 } yields refusal 10 0
+    ∷ record { bytes = 56; place = 12; words = loading 0x100010 0 0 0x100020; hello = false; string = 0; line = 0; low = 0x9FC00; first = 0x100000; window = 0xC000 } yields refusal 10 0
     -- B1 with a load end, a bss end and an entry one too far
-    ∷ record { bytes = 40; place = 0; words = loading 0x100000 0x100029 0x100030 0x100020; hello = true; string = 1; line = 0; low = 0x9FC00; window = 0xC000 } yields refusal 12 0
-    ∷ record { bytes = 40; place = 0; words = loading 0x100000 0 0x100027 0x100020; hello = true; string = 1; line = 0; low = 0x9FC00; window = 0xC000 } yields refusal 13 0
-    ∷ record { bytes = 40; place = 0; words = loading 0x100000 0 0x100030 0x100028; hello = true; string = 1; line = 0; low = 0x9FC00; window = 0xC000 } yields refusal 14 0
+    ∷ record { bytes = 40; place = 0; words = loading 0x100000 0x100029 0x100030 0x100020; hello = true; string = 1; line = 0; low = 0x9FC00; first = 0x100000; window = 0xC000 } yields refusal 12 0
+    ∷ record { bytes = 40; place = 0; words = loading 0x100000 0 0x100027 0x100020; hello = true; string = 1; line = 0; low = 0x9FC00; first = 0x100000; window = 0xC000 } yields refusal 13 0
+    ∷ record { bytes = 40; place = 0; words = loading 0x100000 0 0x100030 0x100028; hello = true; string = 1; line = 0; low = 0x9FC00; first = 0x100000; window = 0xC000 } yields refusal 14 0
     -- B1 in windows that are just long enough for its module, and one byte short
-    ∷ record { bytes = 40; place = 0; words = loading 0x100000 0 0x100030 0x100020; hello = true; string = 1; line = 0; low = 0x9FC00; window = 0x1005 }
+    ∷ record { bytes = 40; place = 0; words = loading 0x100000 0 0x100030 0x100020; hello = true; string = 1; line = 0; low = 0x9FC00; first = 0x100000; window = 0x1005 }
     yields loaded
     (record { falseHeaders = 0; segments = stretch 0 0x100000 0x100028 0x100030 ∷ []; entry = 0x100020; moduleStart = 0x101000; moduleEnd = 0x101005; blockStart = 0x100030; blockEnd = 0x1000D2 })
     (record { eax = 0x2BADB002; ebx = 0x100030; flags = 0x249; memLower = 639; memUpper = 7168; name = shelf })
-    ∷ record { bytes = 40; place = 0; words = loading 0x100000 0 0x100030 0x100020; hello = true; string = 1; line = 0; low = 0x9FC00; window = 0x1004 } yields refusal 16 0
+    ∷ record { bytes = 40; place = 0; words = loading 0x100000 0 0x100030 0x100020; hello = true; string = 1; line = 0; low = 0x9FC00; first = 0x100000; window = 0x1004 } yields refusal 16 0
     -- without its module, in windows that are just long enough for the information block, and one byte short
-    ∷ record { bytes = 40; place = 0; words = loading 0x100000 0 0x100030 0x100020; hello = false; string = 0; line = 0; low = 0x9FC00; window = 0xC0 }
+    ∷ record { bytes = 40; place = 0; words = loading 0x100000 0 0x100030 0x100020; hello = false; string = 0; line = 0; low = 0x9FC00; first = 0x100000; window = 0xC0 }
     yields loaded
     (record { falseHeaders = 0; segments = stretch 0 0x100000 0x100028 0x100030 ∷ []; entry = 0x100020; moduleStart = 0; moduleEnd = 0; blockStart = 0x100030; blockEnd = 0x1000C0 })
     (record { eax = 0x2BADB002; ebx = 0x100030; flags = 0x249; memLower = 639; memUpper = 7168; name = shelf })
-    ∷ record { bytes = 40; place = 0; words = loading 0x100000 0 0x100030 0x100020; hello = false; string = 0; line = 0; low = 0x9FC00; window = 0xBF } yields refusal 17 0
+    ∷ record { bytes = 40; place = 0; words = loading 0x100000 0 0x100030 0x100020; hello = false; string = 0; line = 0; low = 0x9FC00; first = 0x100000; window = 0xBF } yields refusal 17 0
     -- the same with 641 KiB of usable memory from 0 on, of which the kernel is told 640
-    ∷ record { bytes = 40; place = 0; words = loading 0x100000 0 0x100030 0x100020; hello = false; string = 0; line = 0; low = 0xA0400; window = 0xC0 }
+    ∷ record { bytes = 40; place = 0; words = loading 0x100000 0 0x100030 0x100020; hello = false; string = 0; line = 0; low = 0xA0400; first = 0x100000; window = 0xC0 }
     yields loaded
     (record { falseHeaders = 0; segments = stretch 0 0x100000 0x100028 0x100030 ∷ []; entry = 0x100020; moduleStart = 0; moduleEnd = 0; blockStart = 0x100030; blockEnd = 0x1000C0 })
     (record { eax = 0x2BADB002; ebx = 0x100030; flags = 0x249; memLower = 640; memUpper = 7168; name = shelf })
+    -- a kernel that ends at 0x500, and one that begins a byte below it, in usable memory; one at 0x500 passes 15, and a window
+    -- below 1 MiB has no room for the information block
+    ∷ record { bytes = 32; place = 0; words = alone 0x4E0; hello = false; string = 0; line = 0; low = 0x9FC00; first = 0; window = 0x800 } yields refusal 15 0
+    ∷ record { bytes = 32; place = 0; words = alone 0x4FF; hello = false; string = 0; line = 0; low = 0x9FC00; first = 0; window = 0x800 } yields refusal 15 0
+    ∷ record { bytes = 32; place = 0; words = alone 0x500; hello = false; string = 0; line = 0; low = 0x9FC00; first = 0; window = 0x800 } yields refusal 17 0
     -- the longest command line, and one byte more
-    ∷ record { bytes = 40; place = 0; words = loading 0x100000 0 0x100030 0x100020; hello = false; string = 0; line = 255; low = 0x9FC00; window = 0x1C0 }
+    ∷ record { bytes = 40; place = 0; words = loading 0x100000 0 0x100030 0x100020; hello = false; string = 0; line = 255; low = 0x9FC00; first = 0x100000; window = 0x1C0 }
     yields loaded
     (record { falseHeaders = 0; segments = stretch 0 0x100000 0x100028 0x100030 ∷ []; entry = 0x100020; moduleStart = 0; moduleEnd = 0; blockStart = 0x100030; blockEnd = 0x1001C0 })
     (record { eax = 0x2BADB002; ebx = 0x100030; flags = 0x24D; memLower = 639; memUpper = 7168; name = shelf })
-    ∷ record { bytes = 40; place = 0; words = loading 0x100000 0 0x100030 0x100020; hello = false; string = 0; line = 256; low = 0x9FC00; window = 0xC000 } yields refusal 2 0
+    ∷ record { bytes = 40; place = 0; words = loading 0x100000 0 0x100030 0x100020; hello = false; string = 0; line = 256; low = 0x9FC00; first = 0x100000; window = 0xC000 } yields refusal 2 0
     -- B1 with the longest string, and one byte more
-    ∷ record { bytes = 40; place = 0; words = loading 0x100000 0 0x100030 0x100020; hello = true; string = 127; line = 0; low = 0x9FC00; window = 0x1005 }
+    ∷ record { bytes = 40; place = 0; words = loading 0x100000 0 0x100030 0x100020; hello = true; string = 127; line = 0; low = 0x9FC00; first = 0x100000; window = 0x1005 }
     yields loaded
     (record { falseHeaders = 0; segments = stretch 0 0x100000 0x100028 0x100030 ∷ []; entry = 0x100020; moduleStart = 0x101000; moduleEnd = 0x101005; blockStart = 0x100030; blockEnd = 0x100150 })
     (record { eax = 0x2BADB002; ebx = 0x100030; flags = 0x249; memLower = 639; memUpper = 7168; name = shelf })
-    ∷ record { bytes = 40; place = 0; words = loading 0x100000 0 0x100030 0x100020; hello = true; string = 128; line = 0; low = 0x9FC00; window = 0xC000 } yields refusal 2 0
+    ∷ record { bytes = 40; place = 0; words = loading 0x100000 0 0x100030 0x100020; hello = true; string = 128; line = 0; low = 0x9FC00; first = 0x100000; window = 0xC000 } yields refusal 2 0
     -- an ELF image of two segments, with the module between them and the information block behind
-    ∷ record { bytes = 136; place = 0; words = linked 0x00030002 0x100080 0x1000A0 4; hello = true; string = 1; line = 0; low = 0x9FC00; window = 0x152 }
+    ∷ record { bytes = 136; place = 0; words = linked 0x00030002 0x100080 0x1000A0 4; hello = true; string = 1; line = 0; low = 0x9FC00; first = 0x100000; window = 0x152 }
     yields loaded
     (record { falseHeaders = 0; segments = stretch 0 0x100000 0x100088 0x100090 ∷ stretch 0x80 0x1000A0 0x1000A4 0x1000B0 ∷ []; entry = 0x100080; moduleStart = 0x100090; moduleEnd = 0x100095; blockStart = 0x1000B0; blockEnd = 0x100152 })
     (record { eax = 0x2BADB002; ebx = 0x1000B0; flags = 0x249; memLower = 639; memUpper = 7168; name = shelf })
     -- another type, file bytes past the image, segments that share one byte, and an entry in the zeros of the first
-    ∷ record { bytes = 136; place = 0; words = linked 0x00030003 0x100080 0x1000A0 4; hello = true; string = 1; line = 0; low = 0x9FC00; window = 0xC000 } yields refusal 18 0
-    ∷ record { bytes = 136; place = 0; words = linked 0x00030002 0x100080 0x1000A0 9; hello = true; string = 1; line = 0; low = 0x9FC00; window = 0xC000 } yields refusal 19 0
-    ∷ record { bytes = 136; place = 0; words = linked 0x00030002 0x100080 0x10008F 4; hello = true; string = 1; line = 0; low = 0x9FC00; window = 0xC000 } yields refusal 20 0
-    ∷ record { bytes = 136; place = 0; words = linked 0x00030002 0x100088 0x1000A0 4; hello = true; string = 1; line = 0; low = 0x9FC00; window = 0xC000 } yields refusal 14 0
+    ∷ record { bytes = 136; place = 0; words = linked 0x00030003 0x100080 0x1000A0 4; hello = true; string = 1; line = 0; low = 0x9FC00; first = 0x100000; window = 0xC000 } yields refusal 18 0
+    ∷ record { bytes = 136; place = 0; words = linked 0x00030002 0x100080 0x1000A0 9; hello = true; string = 1; line = 0; low = 0x9FC00; first = 0x100000; window = 0xC000 } yields refusal 19 0
+    ∷ record { bytes = 136; place = 0; words = linked 0x00030002 0x100080 0x10008F 4; hello = true; string = 1; line = 0; low = 0x9FC00; first = 0x100000; window = 0xC000 } yields refusal 20 0
+    ∷ record { bytes = 136; place = 0; words = linked 0x00030002 0x100088 0x1000A0 4; hello = true; string = 1; line = 0; low = 0x9FC00; first = 0x100000; window = 0xC000 } yields refusal 14 0
     ∷ []
 
 abbrev pub rows : List Row

@@ -63,18 +63,18 @@ abbrev modelOutcome : Input → Outcome
 modelOutcome input =
     let x = lentOf input in
     let d = modelDecision x in
-    columns d (modelMemory x (windowOf input) d)
+    columns (x .first) d (modelMemory x (windowOf input) d)
 
 -- a window ends a page before 2^32 or earlier, so that the model serves
 abbrev served : List Row → Bool
 served [] = true
-served (r ∷ rs) = leb (0x100000 + r .input .window + page) addressSpace && served rs
+served (r ∷ rs) = leb (r .input .first + r .input .window + page) addressSpace && served rs
 
 model-serves : (l : List Row) → served l ≡ true → map (λ (r : Row). outcomeOf (r .input)) l ≡ map (λ (r : Row). modelOutcome (r .input)) l
 model-serves [] h = refl
 model-serves (r ∷ rs) h =
     let x = lentOf (r .input) in
-    let a = leb (0x100000 + r .input .window + page) addressSpace in
+    let a = leb (r .input .first + r .input .window + page) addressSpace in
     rw (memory-computes x (windowOf (r .input)), decision-computes x (leb-true _ _ (and-left a (served rs) h)), model-serves rs (and-right a (served rs) h))
 
 all-served : served rows ≡ true

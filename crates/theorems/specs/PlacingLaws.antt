@@ -123,8 +123,8 @@ module _ (x : Lent) where
   open-in a =
       let o = open-is (boardIn x) a in
       let u = usable-bytes (x .map) a in (
-        λ e. let k = o .0 e in record { usable = u .0 (k .usable); window = k .window },
-        λ k. o .1 (record { usable = u .1 (k .usable); window = k .window }),
+        λ e. let k = o .0 e in record { usable = u .0 (k .usable); window = k .window; low = k .low },
+        λ k. o .1 (record { usable = u .1 (k .usable); window = k .window; low = k .low }),
       )
 
   kernel-open-is : (kernelOpen (boardIn x) (kernelIn x) ≡ true) ↔ ((i : ℕ) → i < kernelIn x .count → (a : ℕ) → Holds (extentNo (kernelIn x) i) a → Open x a)

@@ -46,10 +46,11 @@ use Rattle.decision.specs.Lent.{Lent}
 use Rattle.decision.specs.Plan.{noPlan}
 use Rattle.block.specs.TextSize.{textSize, stringsSize}
 
--- an address is open: usable, and inside the window
+-- an address is open: usable, inside the window, and not below 0x500
 pub record Open (x : Lent) (a : ℕ) : Type 0 where
   pub usable : Usable (x .map) a
   pub window : (x .first ≤ a) × (a < x .first + x .size)
+  pub low : 0x500 ≤ a
 
 -- the conditions on the load by address fields, 12 to 14: h are the address fields, `len` bytes go from `offset` on, n is the image's length
 pub record OfLoad (h : AddressFields) (offset len n : ℕ) (c : ℕ → Bool) : Type 0 where
@@ -194,6 +195,8 @@ pub record Written (x : Lent) (q : Plan) (w v : List ℕ) : Type 0 where
   pub modules : (i : ℕ) → i < moduleCount (x .submission) → (a : ℕ) → Holds (spanNo (q .modules) i) a
       → byteAt x v a ≡ getD (x .submission) (dataStart (x .submission) i + (a - spanNo (q .modules) i .start .0)) 0
   pub elsewhere : (a : ℕ) → x .first ≤ a → a < x .first + x .size → Elsewhere x q a → byteAt x v a ≡ byteAt x w a
+  -- nothing changes below 0x500, where the interrupt vectors and the BIOS data area lie
+  pub bios-data : (a : ℕ) → x .first ≤ a → a < 0x500 → byteAt x v a ≡ byteAt x w a
 
 -- the number of four bytes at an offset of the information block, found by the value handed over in EBX
 abbrev pub wordAt : Lent → Plan → List ℕ → ℕ → ℕ

@@ -27,13 +27,15 @@ use Rattle.kernel.specs.Kernel.{segmentNo}
 use Rattle.kernel.specs.KernelLaws.{GoodSegment}
 use Rattle.kernel.specs.declared.Segment.{Segment}
 use Rattle.image.specs.JudgedLaws.{good-kernel}
+use Rattle.board.specs.Open.{biosDataEnd}
+use Rattle.board.specs.OpenLaws.{open-is}
 use Rattle.decision.specs.Lent.{Lent}
-use Rattle.decision.specs.Read.{layoutIn, imageIn, kernelIn, lineIn}
+use Rattle.decision.specs.Read.{layoutIn, imageIn, kernelIn, lineIn, boardIn}
 use Rattle.decision.specs.Decided.{planOf}
 use Rattle.decision.specs.Decision.{answerOf, planIn}
 use Rattle.block.specs.WritingLaws.{length-load}
 use Rattle.loader.specs.Memory.{segmentWrite, segmentWrites, moduleWrite, moduleWrites, contentsIn, blockWrite, writesOf, memoryAfter}
-use Rattle.loader.specs.LoadLaws.{Loads, spanIn, countIn, span-inside, span-apart, kernel-span, module-span, block-span, module-span-length, block-span-length}
+use Rattle.loader.specs.LoadLaws.{Loads, spanIn, countIn, span-open, span-inside, span-apart, kernel-span, module-span, block-span, module-span-length, block-span-length}
 use Rattle.loader.specs.WriteLaws.{strings-in}
 use Rattle.theorems.specs.Promises.{Elsewhere, byteAt, Written}
 
@@ -231,6 +233,10 @@ module _ (x : Lent) (h : Loads x) where
         (lt-or-le (j - kernelIn x .count) (layoutIn x .count)))
         (lt-or-le j (kernelIn x .count)))
 
+    -- every address of a span is open, and so none is below the end of the BIOS data area
+    bios-byte : (a : ℕ) → x .first ≤ a → a < biosDataEnd → byteAt x (memoryAfter x w) a ≡ byteAt x w a
+    bios-byte a l u = byte-out a l (λ j v m. let o = open-is (boardIn x) a .0 (span-open x h j v a m) .low in absurd (omega arith))
+
     pub written-bytes : Written x (planIn x) w (memoryAfter x w)
     unfolding planOf layoutOf
     written-bytes =
@@ -240,4 +246,5 @@ module _ (x : Lent) (h : Loads x) where
           bss = bss-byte;
           modules = λ i u a m. module-byte i u a m ∙ ap (λ (k : Module). getD (x .submission) (k .«data» .at + (a - spanNo (planIn x .modules) i .start .0)) 0) (module-at (x .submission) i u);
           elsewhere = λ a l m o. elsewhere-byte a l o;
+          bios-data = bios-byte;
         }

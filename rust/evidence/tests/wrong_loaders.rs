@@ -110,6 +110,16 @@ fn invents_mods_count(case: &Case, window: &mut [u8]) -> Words {
     invents(structure::MODS_COUNT, case, window)
 }
 
+/// Takes addresses below 0x500, which are not open, for not usable either.
+fn tells_no_mem_lower(case: &Case, window: &mut [u8]) -> Words {
+    let words = second::load(case, window);
+    if let Ok(plan) = read_words(&words) {
+        let offset = (plan.block.start - case.first) as usize + structure::MEM_LOWER;
+        put_u32(window, offset, 0);
+    }
+    words
+}
+
 fn writes_before_it_refuses(case: &Case, window: &mut [u8]) -> Words {
     let words = second::load(case, window);
     if words[0] >= 16 {
@@ -195,9 +205,10 @@ const WRONG_BY_THEMSELVES: [(&str, Loader); 12] = [
 ];
 
 /// Only another reading of the rules shows that they are wrong.
-const WRONG_BESIDE_ANOTHER: [(&str, Loader); 3] = [
+const WRONG_BESIDE_ANOTHER: [(&str, Loader); 4] = [
     ("refuses_everything", refuses_everything),
     ("invents_mem_upper", invents_mem_upper),
+    ("tells_no_mem_lower", tells_no_mem_lower),
     ("counts_in_loads_alone", counts_in_loads_alone),
 ];
 

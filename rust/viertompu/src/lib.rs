@@ -65,7 +65,8 @@ extern "sysv64" {
 }
 
 /// Loads a submission into the window, which stands for physical memory from the address `first`
-/// on; or gives the first check that refuses, and leaves the window as it was.
+/// on; or gives the first check that refuses, and leaves the window as it was. No byte of
+/// the window below 0x500 is ever written: the interrupt vectors and the BIOS data area lie there.
 ///
 /// The operator's command line may be empty; then the submission's is in force.
 pub fn load(

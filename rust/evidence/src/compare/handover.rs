@@ -7,8 +7,8 @@ use crate::loaders::model::{self, Module, Reading};
 use crate::loaders::Outcome;
 use crate::rules::bytes::u32_at;
 use crate::rules::limits::{
-    ADDRESS_FIELDS, BOOT_MAGIC, CMDLINE_FLAG, ELF_MARK, FLOOR, LOADER_NAME, MODULE_ENTRY, PAGE,
-    PAGE_ALIGNED, STRUCTURE, STRUCTURE_FLAGS, WORD,
+    ADDRESS_FIELDS, BIOS_DATA_END, BOOT_MAGIC, CMDLINE_FLAG, ELF_MARK, FLOOR, LOADER_NAME,
+    MODULE_ENTRY, PAGE, PAGE_ALIGNED, STRUCTURE, STRUCTURE_FLAGS, WORD,
 };
 use crate::rules::offsets::{header, structure};
 use viertompu::{Plan, Segment, Span};
@@ -144,10 +144,11 @@ impl<'a> Load<'a> {
         demand(unused.iter().all(|s| *s == Segment::default()), "segments")
     }
 
-    /// A part's file bytes lie at its addresses, and zeros behind them.
+    /// A part's file bytes lie at its addresses past the BIOS data area, and zeros behind them.
     fn segment(&self, part: &Part, segment: &Segment) -> Result<(), String> {
         let told = [segment.start, segment.load_end, segment.extent_end].map(u64::from);
         demand(told == [part.start, part.load_end, part.extent_end], "segment's addresses")?;
+        demand(part.start >= BIOS_DATA_END, "interrupt vectors and BIOS data")?;
         let loaded = self.memory.part(part.start, part.load_end)?;
         let zeros = self.memory.part(part.load_end, part.extent_end)?;
         let from = usize::try_from(part.offset).ok();

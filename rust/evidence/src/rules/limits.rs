@@ -4,6 +4,8 @@
 pub const PAGE: u64 = 4096;
 /// The boundary of modules otherwise, and of the information block.
 pub const WORD: u64 = 4;
+/// The interrupt vectors and the BIOS data area lie below this; no address there is open.
+pub const BIOS_DATA_END: u64 = 0x500;
 /// The lowest address at which a module or the information block may stand.
 pub const FLOOR: u64 = 0x10_0000;
 /// The highest address at which a window may end.

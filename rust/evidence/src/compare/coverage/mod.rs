@@ -1,5 +1,6 @@
 //! How often each number came, and each goal of the inputs was reached.
 
+mod bios_data;
 mod board;
 mod elf;
 mod false_headers;
@@ -16,6 +17,7 @@ use crate::rules::bytes::u32_at;
 use crate::rules::limits::{MAX_LINE, MAX_MAP, MAX_MODULES, PREFIX, TABLE_ENTRY, TOP};
 use crate::rules::numbers;
 use crate::rules::offsets::submission;
+use bios_data::BiosData;
 use board::OnBoard;
 use load::Load;
 use std::collections::BTreeMap;
@@ -71,6 +73,7 @@ impl Coverage {
     fn record_board(&mut self, case: &Case, reading: &Reading, outcome: &Outcome) {
         self.count(OnBoard { case, reading, outcome }.goals());
         self.count(elf::board_goals(reading, outcome));
+        self.count(BiosData { reading, outcome }.goals());
         if let Ok(plan) = &read_words(&outcome.words) {
             self.count(Load { case, reading, plan, outcome }.goals());
             self.count(elf::load_goals(reading, plan));

@@ -38,16 +38,21 @@ const DATA: usize = 116;
 const HEADER: usize = 148;
 
 const CODE_BYTES: &[u8] = b"\xFA\xF4\xEB\xFD\x90\x90\x90\x90";
-const CODE_SEGMENT: [u32; 3] = [0x10_0000, 0x10_0008, 0x10_0010];
+pub const CODE_SEGMENT: [u32; 3] = [0x10_0000, 0x10_0008, 0x10_0010];
 const DATA_SEGMENT: [u32; 3] = [0x10_0018, 0x10_001C, 0x10_0020];
 const ENTRY: u32 = 0x10_0000;
 /// E1's module, which fits between the segments, and its block behind them.
 const MODULE: [u32; 2] = [0x10_0010, 0x10_0015];
 const BLOCK: [u32; 2] = [0x10_0020, 0x10_00C2];
 
-/// The shortest image that is in order: its one program header stands in its ELF header from 8 on,
-/// and its header begins with the ELF header's last word. It loads its first eight bytes to 8.
-const SHORTEST: &str = "7F 45 4C 46 01 01 01 00 01 00 00 00 00 00 00 00
+/// The shortest image that loads: its one program header stands in its ELF header from 7 on, and its
+/// header begins with the ELF header's last word. It loads its first eight bytes to 16 MiB.
+const SHORTEST: &str = "7F 45 4C 46 01 01 01 01 00 00 00 00 00 00 00 00
+    02 00 03 00 00 00 01 08 00 00 00 01 07 00 00 00
+    00 00 00 00 00 00 00 00 34 00 20 00 01 00 00 00 02 B0 AD 1B 00 00 00 00 FE 4F 52 E4";
+
+/// As short, with its program header from 8 on: its entry is its file size, so that it lies low.
+const SHORTEST_AND_LOW: &str = "7F 45 4C 46 01 01 01 00 01 00 00 00 00 00 00 00
     02 00 03 00 08 00 00 00 08 00 00 00 08 00 00 00
     00 00 00 00 00 00 00 00 34 00 20 00 01 00 00 00 02 B0 AD 1B 00 00 00 00 FE 4F 52 E4";
 
@@ -81,6 +86,11 @@ fn e1_with(changes: &[(usize, u32)]) -> Case {
     on_board(submission)
 }
 
+/// E1 with its data segment at another address.
+pub fn data_at(address: u32) -> Case {
+    e1_with(&[(DATA + P_PADDR, address)])
+}
+
 fn e1_image() -> Vec<u8> {
     e1()[E1_IMAGE].to_vec()
 }
@@ -98,7 +108,7 @@ fn kernel(
 }
 
 /// E1's plan with other segments, module and block.
-fn e1_like(segments: &[[u32; 3]], module: [u32; 2], block: [u32; 2]) -> Plan {
+pub fn e1_like(segments: &[[u32; 3]], module: [u32; 2], block: [u32; 2]) -> Plan {
     Plan { header_offset: HEADER as u32, ..plan_of(segments, ENTRY, block, &[module]) }
 }
 
@@ -106,14 +116,15 @@ fn e1_plan() -> Plan {
     e1_like(&[CODE_SEGMENT, DATA_SEGMENT], MODULE, BLOCK)
 }
 
-/// An image of its ELF header, a table, a header without address fields, and bytes.
-fn with_table(table: &[ProgramHeader]) -> Vec<u8> {
-    let elf = Elf::new(ELF_HEADER, ENTRY, table.to_vec());
+/// An image of its ELF header, which names the entry, a table, a header without address fields, and
+/// bytes.
+pub fn with_table(entry: u32, table: &[ProgramHeader]) -> Vec<u8> {
+    let elf = Elf::new(ELF_HEADER, entry, table.to_vec());
     [elf.header.bytes(), elf.table_bytes(), bytes(FLAGS_0), pattern(0, 128)].concat()
 }
 
 /// Where the bytes stand behind a table and a header.
-fn behind(count: usize) -> u32 {
+pub fn behind(count: usize) -> u32 {
     (ELF_HEADER + PROGRAM_HEADER * count + 12) as u32
 }
 
@@ -150,7 +161,7 @@ fn by_address_fields() -> BenchCase {
 fn sixteen_segments() -> BenchCase {
     let start = |index: u32| 0x10_0000 + 8 * (15 - index);
     let header = |index: u32| ProgramHeader::load(behind(16) + 8 * index, start(index), 8, 8);
-    let image = with_table(&(0..16).map(header).collect::<Vec<_>>());
+    let image = with_table(ENTRY, &(0..16).map(header).collect::<Vec<_>>());
     let segment = |index: u32| [start(index), start(index) + 8, start(index) + 8];
     let segments: Vec<[u32; 3]> = (0..16).map(segment).collect();
     let block = [0x10_0080, 0x10_0110];
@@ -235,24 +246,28 @@ fn flag_borders() -> Vec<BenchCase> {
     ]
 }
 
-/// The shortest image on B1's board, in a window from 0 on.
+/// The shortest image on B1's board and 4 KiB from 16 MiB on, in a window there.
 fn shortest(length: usize) -> Case {
-    let window = pattern(0, 0x10_0090);
-    Case { first: 0, window, ..on_board(bare(&shortest_elf()[..length])) }
+    let board = with_pair(bare(&shortest_elf()[..length]), Pair::new(0x100_0000, 0x1000, RAM));
+    Case { first: 0x100_0000, window: pattern(0, 0x7AC), ..board }
 }
 
 fn shortest_images() -> Vec<BenchCase> {
-    use Refusal::{BadElf, NoHeader};
-    let plan = plan_of(&[[8, 16, 16]], 8, [0x10_0000, 0x10_0090], &[]);
+    use Refusal::{BadElf, KernelNotOpen, NoHeader};
+    let segment = [0x100_0000, 0x100_0008, 0x100_0701];
+    let plan = plan_of(&[segment], 0x100_0000, [0x100_0704, 0x100_07AC], &[]);
     let inside = |length: usize| on_board(bare(&with_header_inside(1).bytes()[..length]));
+    let low = on_board(bare(&bytes(SHORTEST_AND_LOW)));
+    let low = Case { first: 0, window: pattern(0, 0x10_0090), ..low };
     vec![
         refused("an ELF image of 51 bytes", inside(51), BadElf),
         refused("an ELF image of 52 bytes", inside(52), BadElf),
         refused("an ELF image of 59 bytes", shortest(59), NoHeader { false_headers: 0 }),
         loads("an ELF image of 60 bytes", shortest(60), Plan { header_offset: 48, ..plan })
-            .holding(0, &pattern(0, 8))
-            .holding(8, b"\x7FELF\x01\x01\x01\x00")
-            .holding(16, &pattern(16, 8)),
+            .holding(0x100_0000, b"\x7FELF\x01\x01\x01\x01")
+            .holding(0x100_0008, &[0; 0x6F9])
+            .holding(0x100_0701, &pattern(0x701, 3)),
+        refused("an ELF image of 60 bytes at 8", low, KernelNotOpen),
     ]
 }
 
@@ -315,7 +330,7 @@ fn count_borders() -> Vec<BenchCase> {
     let many = |count: usize| {
         let mut table = vec![ProgramHeader::default(); count];
         table[count - 1] = ProgramHeader::load(behind(count), 0x10_0000, 8, 16);
-        with_table(&table)
+        with_table(ENTRY, &table)
     };
     let block = [0x10_0010, 0x10_00A0];
     let empty = [(CODE + P_FILESZ, 0), (CODE + P_MEMSZ, 0), (DATA + P_TYPE, 2)];
@@ -381,7 +396,6 @@ fn file_byte_borders() -> Vec<BenchCase> {
 
 fn overlap_borders() -> Vec<BenchCase> {
     use Refusal::SegmentsOverlap;
-    let data_at = |address: u32| e1_with(&[(DATA + P_PADDR, address)]);
     let touching = [CODE_SEGMENT, [0x10_0010, 0x10_0014, 0x10_0018]];
     let touching = e1_like(&touching, [0x10_0018, 0x10_001D], BLOCK);
     let around = [(CODE + P_MEMSZ, 0x1000)];
@@ -401,7 +415,7 @@ fn overlap_borders() -> Vec<BenchCase> {
 /// Three segments of eight file bytes and eight zeros.
 fn three_segments(last: u32) -> Vec<u8> {
     let starts = [0x10_0000, 0x10_0100, last];
-    with_table(&starts.map(|start| ProgramHeader::load(behind(3), start, 8, 16)))
+    with_table(ENTRY, &starts.map(|start| ProgramHeader::load(behind(3), start, 8, 16)))
 }
 
 fn first_and_last_touch() -> BenchCase {
@@ -433,7 +447,6 @@ fn entry_borders() -> Vec<BenchCase> {
 /// Segments that are not open, and ends at 2^32.
 fn open_borders() -> Vec<BenchCase> {
     use Refusal::{KernelNotOpen, NoRoomForBlock};
-    let data_at = |address: u32| e1_with(&[(DATA + P_PADDR, address)]);
     let also_at_0 = e1_with(&[(DATA + P_PADDR, 0xFFFF_FFFC), (CODE + P_PADDR, 0), (E_ENTRY, 0)]);
     let last = [(DATA + P_PADDR, 0xFFFF_FFFF), (DATA + P_FILESZ, 1), (DATA + P_MEMSZ, 1)];
     let reserved = |address: u64| with_pair(e1(), Pair::new(address, 1, 2));

@@ -2,7 +2,7 @@
 
 use crate::input::pair::Pair;
 use crate::input::rng::Rng;
-use crate::rules::limits::{ADDRESS_SPACE, FLOOR, LOW_MEMORY, PAGE, RAM, TOP};
+use crate::rules::limits::{ADDRESS_SPACE, BIOS_DATA_END, FLOOR, LOW_MEMORY, PAGE, RAM, TOP};
 use crate::rules::Item;
 use std::ops::Range;
 
@@ -200,14 +200,47 @@ pub fn roomy(rng: &mut Rng, needs: &Needs) -> Board {
     Board { pairs, load_addrs, window }
 }
 
-/// A window from 0 on to behind 1 MiB, with usable memory at both ends.
-pub fn from_zero(rng: &mut Rng, needs: &Needs) -> Board {
+/// Where a window begins: at 0, below the end of the BIOS data area, a byte below it, or there.
+fn low_window(rng: &mut Rng) -> u64 {
+    let inside = rng.below(BIOS_DATA_END);
+    rng.pick(&[0, inside, BIOS_DATA_END - 1, BIOS_DATA_END])
+}
+
+/// Addresses for the extents, mostly around the end of the BIOS data area: from there up, from a byte
+/// below, or so that the first extent ends there, where it is laid first.
+fn laid_low(rng: &mut Rng, needs: &Needs) -> Vec<u64> {
+    let near = rng.below(2 * BIOS_DATA_END);
+    let first = match rng.below(8) {
+        0..=2 => BIOS_DATA_END,
+        3 | 4 => BIOS_DATA_END - 1,
+        5 | 6 => BIOS_DATA_END.saturating_sub(needs.kernel[0]),
+        _ => rng.pick(&[0, near]),
+    };
+    laid(rng, needs, first)
+}
+
+/// A window from low memory on to behind 1 MiB, with usable memory at both ends.
+pub fn across_low(rng: &mut Rng, needs: &Needs) -> Board {
     let high = needs.room() + rng.below(1000);
     let mut pairs = vec![Pair::new(0, LOW_MEMORY, RAM), Pair::new(FLOOR, high, RAM)];
-    let window = 0..FLOOR + high;
+    let window = low_window(rng)..FLOOR + high;
     pad(rng, &mut pairs, needs.pairs, &window);
-    let first = rng.pick(&[0, 0x7C00, FLOOR]);
-    Board { pairs, load_addrs: laid(rng, needs, first), window }
+    let other = rng.pick(&[0x7C00, FLOOR]);
+    let load_addrs = if rng.one_in(8) { laid(rng, needs, other) } else { laid_low(rng, needs) };
+    Board { pairs, load_addrs, window }
+}
+
+/// A short window of usable low memory for the kernel alone, at times from its first address on.
+pub fn low(rng: &mut Rng, needs: &Needs) -> Board {
+    let load_addrs = laid_low(rng, needs);
+    let lowest = load_addrs.iter().min().copied();
+    let ends = load_addrs.iter().zip(&needs.kernel).map(|(start, length)| start + length);
+    let end = ends.max().unwrap_or(0) + rng.below(100);
+    let start = lowest.filter(|_| rng.one_in(4)).unwrap_or_else(|| low_window(rng));
+    let window = start..end.max(start);
+    let mut pairs = vec![Pair::new(0, end + rng.below(100), RAM)];
+    pad(rng, &mut pairs, needs.pairs, &window);
+    Board { pairs, load_addrs, window }
 }
 
 /// Pairs of all kinds thrown over a window, which may be empty.

@@ -31,7 +31,11 @@ type MakeBoard = fn(&mut Rng, &Needs) -> Board;
 pub fn case(seed: u64, index: u64) -> Case {
     let mut rng = Rng::of_case(seed, index);
     let boards: [MakeBoard; 4] = [board::fitted, board::fitted, board::roomy, board::scattered];
-    let make = if rng.one_in(400) { board::from_zero } else { rng.pick(&boards) };
+    let make = match rng.below(100) {
+        0 => board::across_low,
+        1..=4 => board::low,
+        _ => rng.pick(&boards),
+    };
     let mut draft = sound(&mut rng, make);
     let name = format!("seed {seed} index {index}");
     match rng.below(20) {

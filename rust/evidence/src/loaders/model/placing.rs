@@ -1,7 +1,7 @@
 //! Usable, open and placing (checks 15 to 17), decided by asking every address in turn.
 
 use crate::input::pair::Pair;
-use crate::rules::limits::{ADDRESS_SPACE, FLOOR, KIB, MAX_MEM_LOWER, RAM};
+use crate::rules::limits::{ADDRESS_SPACE, BIOS_DATA_END, FLOOR, KIB, MAX_MEM_LOWER, RAM};
 use crate::rules::Item;
 use std::ops::Range;
 use viertompu::Refusal;
@@ -22,7 +22,7 @@ impl Board {
         (walk + window) * self.pairs.len() as u128
     }
 
-    fn usable(&self, address: u64) -> bool {
+    pub fn usable(&self, address: u64) -> bool {
         let covers = |pair: &Pair| pair.covers(address);
         let mut ram = self.pairs.iter().filter(|pair| pair.kind == RAM);
         let mut other = self.pairs.iter().filter(|pair| pair.kind != RAM);
@@ -30,7 +30,7 @@ impl Board {
     }
 
     pub fn open(&self, address: u64) -> bool {
-        self.window.contains(&address) && self.usable(address)
+        self.window.contains(&address) && address >= BIOS_DATA_END && self.usable(address)
     }
 
     /// mem_lower and mem_upper.

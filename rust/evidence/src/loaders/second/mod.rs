@@ -16,7 +16,7 @@ mod submission;
 pub use mending::mend;
 
 use crate::input::case::Case;
-use crate::rules::limits::{BOOT_MAGIC, MAX_LINE, PAGE, TOP, WORD};
+use crate::rules::limits::{BIOS_DATA_END, BOOT_MAGIC, MAX_LINE, PAGE, TOP, WORD};
 use crate::rules::{words, Decision, Item};
 use block::Block;
 use image::Segment;
@@ -102,6 +102,7 @@ fn place(examined: &Examined) -> Result<Placed, Refusal> {
 /// The open memory around the kernel's extents, or nothing where an address of them is not open.
 fn open_around(examined: &Examined) -> Option<SpanSet> {
     let mut free = examined.map.usable().within(examined.window);
+    free.remove(Span { start: 0, end: BIOS_DATA_END });
     let extents = || examined.kernel.segments.iter().map(Segment::extent);
     if !extents().all(|extent| free.covers(extent)) {
         return None;

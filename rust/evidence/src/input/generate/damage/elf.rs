@@ -37,7 +37,7 @@ pub fn image_under_52(rng: &mut Rng, draft: &mut Draft) {
     draft.filler.truncate(rng.pick(&[kept, ELF_HEADER - 1]));
 }
 
-/// 15 or 6: the shortest image that is in order, or without its last byte, which is its header's.
+/// 15 or 6: the shortest image that loads, or without its last byte, which is its header's.
 pub fn shortest(rng: &mut Rng, draft: &mut Draft) {
     let mut image = shortest_elf();
     draft.elf = None;
