@@ -72,7 +72,7 @@ fn case() -> Case {
 /// Low memory, then the window's memory in pairs that abut.
 fn map() -> Vec<Pair> {
     let count = MAX_PAIRS as u64 - 1;
-    let length = 8 * MIB as u64 / count + 1;
+    let length = (8 * MIB as u64).div_ceil(count);
     let part = |index: u64| Pair::new(FLOOR + index * length, length, RAM);
     let mut pairs = vec![Pair::new(0, LOW_MEMORY, RAM)];
     pairs.extend((0..count).map(part));

@@ -1,6 +1,7 @@
 //! What holds loaders against each other, and each against the rules.
 //!
 //! - [`same`], [`sound`]: two outcomes of a case are one; an outcome is right by itself
+//! - [`common_outcome`]: what all loaders and the model give for a case
 //! - [`handover`]: reads a finished load as a kernel would, and finds every byte accounted for
 //! - [`elf`]: the headers of an ELF image as they stand in it
 //! - [`by_address`]: an outcome is what the address-by-address model says
@@ -16,7 +17,7 @@ pub mod mending;
 pub mod printed;
 
 use crate::input::case::Case;
-use crate::loaders::Outcome;
+use crate::loaders::{run, second, Outcome, PROVED};
 use crate::rules::{numbers, words};
 use viertompu::read_words;
 
@@ -52,4 +53,16 @@ pub fn sound(case: &Case, outcome: &Outcome) -> Result<(), String> {
         Err(_) if outcome.window != case.window => Err("a refusal wrote the window".into()),
         Err(_) => Ok(()),
     }
+}
+
+/// What every loader leaves behind for a case, right by itself and what the model says; or where one
+/// of them differs.
+pub fn common_outcome(case: &Case) -> Result<Outcome, String> {
+    let outcome = run(second::load, case);
+    sound(case, &outcome)?;
+    by_address::agrees(case, &outcome, u128::MAX)?;
+    for (name, loader) in PROVED {
+        same(case, &run(loader, case), &outcome).map_err(|what| format!("{name}: {what}"))?;
+    }
+    Ok(outcome)
 }

@@ -146,7 +146,7 @@ impl Draft {
 pub fn pattern(from: usize, length: usize) -> Vec<u8> {
     let from = from % 255;
     let cycle: Vec<u8> = (1..=255).collect();
-    let mut bytes = cycle.repeat((from + length) / 255 + 1);
+    let mut bytes = cycle.repeat((from + length).div_ceil(255));
     bytes.truncate(from + length);
     bytes.split_off(from)
 }

@@ -299,8 +299,7 @@ impl ElfLoad<'_> {
     /// Does an item begin right behind a segment, but for its boundary, and end at another one?
     fn fills(&self, span: &Span, boundary: u64) -> bool {
         let (start, end) = (u64::from(span.start), u64::from(span.end));
-        let behind =
-            |h: &ProgramHeader| h.extent().end <= start && start - h.extent().end < boundary;
+        let behind = |h: &ProgramHeader| h.extent().end.next_multiple_of(boundary) == start;
         self.any(|h| h.p_paddr == end) && self.any(behind)
     }
 

@@ -226,6 +226,12 @@ fn filler(rng: &mut Rng, length: usize) -> Vec<u8> {
     rng.bytes(length)
 }
 
+/// The highest multiple of 4 that is not above an offset.
+fn round_down(offset: usize) -> usize {
+    let remainder = offset % 4;
+    offset - remainder
+}
+
 /// Places for a magic with a wrong sum or off the multiples of 4: before the header, also in each
 /// other's bytes and in the header's, and behind it.
 fn decoys(rng: &mut Rng, header: usize) -> Vec<usize> {
@@ -233,12 +239,12 @@ fn decoys(rng: &mut Rng, header: usize) -> Vec<usize> {
         return Vec::new();
     }
     let at = rng.below(header as u64) as usize;
-    let word = at / 4 * 4;
+    let word = round_down(at);
     match rng.below(8) {
         0 => vec![0],
         1 => vec![at],
         2 => vec![word],
-        3 => vec![word / 8 * 4, word],
+        3 => vec![round_down(word / 2), word],
         4 => vec![header - rng.pick(&[4, 8])],
         5 => (word..header).step_by(4).collect(),
         6 => vec![at, header + FULL_HEADER + 4 * rng.below(8) as usize],
