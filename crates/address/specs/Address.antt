@@ -29,9 +29,12 @@ boundaryOf false = word
 unfoldable pub isMultiple : ℕ → ℕ → Bool
 isMultiple b a = eqb (a % b) 0
 
--- a itself where it meets the boundary b, else a and what is missing to the next multiple
+-- the address a rounded up to the boundary b: take the remainder, and if it is not zero go on by what is missing
 unfoldable pub roundUp : ℕ → ℕ → ℕ
-roundUp a b = cond (isMultiple b a) a (a + (b - a % b))
+roundUp a b =
+    let remainder = a % b in
+    let missing = b - remainder in
+    cond (eqb remainder 0) a (a + missing)
 
 -- the address a lies from start up to but not including end
 unfoldable pub inside : ℕ → ℕ → ℕ → Bool

@@ -8,7 +8,8 @@ use Prim.Native.Nat.{ℕ, _+_, _-_, _*_, _/_, _%_, _≤_, _<_}
 use native.Mathlib.Nat.{div-add-mod', mod-lt, mod-self, mul-add-mod-self-right, lt-of-mul-lt-mul-right, mul-le-mul-right, suc-mul}
 use native.Mathlib.Omega.{arith}
 use borrow.Author.Tests.{eqb-true, eqb-false}
-use Rattle.address.specs.Address.{page, boundaryOf, isMultiple, roundUp}
+use lib.Dec.{eqb}
+use Rattle.address.specs.Address.{page, boundaryOf, roundUp}
 
 -- r is the lowest multiple of b that is not below a
 pub record Rounded (a b r : ℕ) : Type 0 where
@@ -25,8 +26,8 @@ module _ (a b : ℕ) (pos : 0 < b) where
       let m : q < s / b = lt-of-mul-lt-mul-right b (omega arith) in
       omega (arith, mul-le-mul-right b m, suc-mul q b)
 
-  by-test : (t : Bool) → isMultiple b a ≡ t → Rounded a b (roundUp a b)
-  unfolding roundUp isMultiple
+  by-test : (t : Bool) → eqb (a % b) 0 ≡ t → Rounded a b (roundUp a b)
+  unfolding roundUp
   by-test true e =
       rw e (record { low = omega arith; near = omega arith; multiple = eqb-true _ _ e; lowest = λ s l m. l })
   by-test false e =
@@ -43,7 +44,7 @@ module _ (a b : ℕ) (pos : 0 < b) where
       })
 
 pub rounded : (a b : ℕ) → 0 < b → Rounded a b (roundUp a b)
-rounded a b pos = by-test a b pos (isMultiple b a) refl
+rounded a b pos = by-test a b pos (eqb (a % b) 0) refl
 
 pub boundary-some : (pages : Bool) → (0 < boundaryOf pages) × (boundaryOf pages ≤ page)
 boundary-some true = (omega arith, omega arith)

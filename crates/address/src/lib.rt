@@ -47,12 +47,12 @@ impl PhysAddr {
         ensures { λ r. ⌜ r .0 ≡ roundUp (self .0) (boundaryOf pages) ⌝ }
     {
         let boundary = PhysAddr::boundary(pages);
-        let rest = self.0 % boundary;
-        if rest == 0 {
-            self
-        } else {
-            PhysAddr(self.0 + (boundary - rest))
+        let remainder = self.0 % boundary;
+        if remainder != 0 {
+            let missing = boundary - remainder;
+            return PhysAddr(self.0 + missing);
         }
+        self
     }
 
     // The lowest multiple of the boundary from the floor up.

@@ -37,7 +37,7 @@ placeOffset (at k) = At (record { 0 = 4 * k })
 unfoldable pub lowestMagic : List ℕ → Search
 lowestMagic image = placeOffset (first (isMagicPlace image) (searchLimit / 4) 0)
 
--- the number below 2^32 with which magic and flags give 0 modulo 2^32
+-- the number below 2^32 with which magic and flags give 0 modulo 2^32; the outer remainder turns 2^32 into 0
 unfoldable pub rightChecksum : ℕ → ℕ
 rightChecksum flags = (2 ^ 32 - (headerMagic + flags) % 2 ^ 32) % 2 ^ 32
 

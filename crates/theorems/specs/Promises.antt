@@ -210,7 +210,7 @@ bytesFrom x v a n = take n (drop (a - x .first) v)
 pub record ReadBack (x : Lent) (q : Plan) (v : List ℕ) : Type 0 where
   pub flags : length (lineOf x) ≡ 0 → wordAt x q v 0 ≡ 0x249
   pub flags-line : (length (lineOf x) ≡ 0 → ⊥) → wordAt x q v 0 ≡ 0x24D
-  -- usable addresses in a row from 0 on and from 1 MiB on, in KiB, the first at most 640
+  -- usable addresses in a row from 0 on and from 1 MiB on, in whole KiB, the first at most 640
   pub lower : ℕ
   pub lower-row : Stretch (x .map) 0 lower
   pub lower-word : wordAt x q v 4 ≡ min (lower / 1024) 640

@@ -1,5 +1,5 @@
 -- The sizes of lower and upper memory.                                                  rule: SIZES
---     memLower    the number of consecutive usable addresses from 0 in KiB, at most 640
+--     memLower    the number of consecutive usable addresses from 0 in whole KiB, at most 640
 --     memUpper    the same from 0x100000, with no cap but 2^32
 -- Assumes nothing.
 use Prim.Native.Nat.{ℕ, _-_, _/_, min}

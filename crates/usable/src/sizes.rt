@@ -30,7 +30,7 @@ fn usable_run(map: MemoryMap, start: PhysAddr) -> u64
     x.0 - start.0
 }
 
-// The size of lower memory in KiB.
+// The size of lower memory in whole KiB.
 pub fn mem_lower(map: MemoryMap) -> u32
     ensures { λ r. ⌜ r ≡ memLower map ⌝ }
 {
@@ -42,7 +42,7 @@ pub fn mem_lower(map: MemoryMap) -> u32
     }
 }
 
-// The size of upper memory in KiB.
+// The size of upper memory in whole KiB.
 pub fn mem_upper(map: MemoryMap) -> u32
     ensures { λ r. ⌜ r ≡ memUpper map ⌝ }
 {
