@@ -9,7 +9,7 @@ use viertompu::read_words;
 
 /// The lowest of the kernels' ends, a page boundary.
 const LOWEST_END: u64 = FLOOR + PAGE;
-/// Room for the longest kernel, a page and the block.
+/// Room for the longest kernel, and a page for the module and the block.
 const ROOM: u64 = 3 * PAGE;
 
 /// A kernel from 1 MiB up to an end, and a module of one byte.
