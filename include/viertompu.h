@@ -45,7 +45,8 @@ extern "C" {
  *     the entry                 entry_addr, or the ELF header's e_entry as a physical address
  *     the kernel's extents      the addresses of its segments, zeros included
  *     room                      an address from 0x100000 up, on a boundary of 4 (for modules 4,096 where flag bit 0 is set), from
- *                               which on all is open and apart from the kernel and from what was placed before
+ *                               which a module ends at or below its ceiling, if it has one, and from which on all is open and
+ *                               apart from the kernel and from what was placed before
  */
 #define VIERTOMPU_ANSWERS(ANSWER) \
     ANSWER(VIERTOMPU_LOAD, 0, "no check applies: a load") \
@@ -134,11 +135,12 @@ static inline const char *viertompu_reason(uint32_t number)
  *
  *      at   size   meaning
  *       0      3   the bytes KSB
- *       3      2   version: 1
+ *       3      2   version: 1 or 2
  *       5      1   how many modules: 0 to 16
  *       6      4   length of the image
  *      10      2   length of the command line: 0 to 255
- *      12   8 for each module: length of its data (4 bytes, 1 or more), length of its string (2 bytes, 0 to 127), zero (2 bytes)
+ *      12   8 for each module: length of its data (4 bytes, 1 or more), length of its string (2 bytes, 0 to 127), its ceiling in
+ *                  MiB (2 bytes), at or below which it ends; 0 is none, and version 1 has 0 here
  *
  * Then, without gaps and up to the submission's end: the image, the command line, and for each module its data and its
  * string. Command line and strings hold no zero byte; the information block puts one behind each.
@@ -191,7 +193,7 @@ uint32_t viertompu_mend(uint8_t *image, size_t image_len, uint32_t report[VIERTO
  *   the map, the kernel and its modules alone. A window at address 0 needs another mapping, since a pointer to it is null; one
  *   from 0x500 up to the same end gives the same answer and plan, as nothing below 0x500 is open.
  * - It uses the SSE registers, so that CR4.OSFXSR must be set, and CR0.EM and CR0.TS clear; it uses neither x87, MMX nor AVX.
- * - A load takes about 7.9 KB of stack, a mend far less; the stack must be aligned to 16 bytes where the call is made, as the
+ * - A load takes about 8.0 KB of stack, a mend far less; the stack must be aligned to 16 bytes where the call is made, as the
  *   System V calls ask. Nothing is written below the stack pointer (no red zone), so that interrupts may run on the same stack
  *   if it has room for them.
  */

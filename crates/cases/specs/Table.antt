@@ -24,15 +24,17 @@ use Rattle.decision.specs.Lent.{Lent}
 use Rattle.decision.specs.Decision.{decisionOf}
 use Rattle.loader.specs.Memory.{memoryAfter}
 
--- an image of so many bytes with a header's words at an offset and zeros elsewhere; whether the module `hello` comes with it,
--- and how long its string is; how long are the command line and the usable memory from 0 on; where the window begins, and how
--- long it is
+-- the version of the submission; an image of so many bytes with a header's words at an offset and zeros elsewhere; whether the
+-- module `hello` comes with it, how long its string is, and its ceiling in MiB; how long are the command line and the usable
+-- memory from 0 on; where the window begins, and how long it is
 pub record Input : Type 0 where
+  pub version : ℕ
   pub bytes : ℕ
   pub place : ℕ
   pub words : List ℕ
   pub hello : Bool
   pub string : ℕ
+  pub ceiling : ℕ
   pub line : ℕ
   pub low : ℕ
   pub first : ℕ
@@ -46,9 +48,9 @@ abbrev letters : ℕ → List ℕ
 letters n = replicate n 0x61
 
 -- the module's entry, and its data with the string
-abbrev helloEntry : Bool → ℕ → List ℕ
-helloEntry true n = 5 ∷ 0 ∷ 0 ∷ 0 ∷ (numberBytes 2 n ++ (0 ∷ 0 ∷ []))
-helloEntry false n = []
+abbrev helloEntry : Bool → ℕ → ℕ → List ℕ
+helloEntry true n c = 5 ∷ 0 ∷ 0 ∷ 0 ∷ (numberBytes 2 n ++ numberBytes 2 c)
+helloEntry false n c = []
 
 abbrev helloParts : Bool → ℕ → List ℕ
 helloParts true n = 0x68 ∷ 0x65 ∷ 0x6C ∷ 0x6C ∷ 0x6F ∷ letters n
@@ -60,8 +62,8 @@ helloCount false = 0
 
 abbrev pub submissionOf : Input → List ℕ
 submissionOf input =
-    0x4B ∷ 0x53 ∷ 0x42 ∷ 1 ∷ 0 ∷ helloCount (input .hello) ∷ (numberBytes 4 (input .bytes) ++ (numberBytes 2 (input .line)
-    ++ (helloEntry (input .hello) (input .string) ++ (imageOf input ++ (letters (input .line) ++ helloParts (input .hello) (input .string))))))
+    0x4B ∷ 0x53 ∷ 0x42 ∷ (numberBytes 2 (input .version) ++ (helloCount (input .hello) ∷ (numberBytes 4 (input .bytes) ++ (numberBytes 2 (input .line)
+    ++ (helloEntry (input .hello) (input .string) (input .ceiling) ++ (imageOf input ++ (letters (input .line) ++ helloParts (input .hello) (input .string))))))))
 
 -- two pairs of usable memory, from 0 and from 0x100000 on
 abbrev pub boardOf : Input → List ℕ
@@ -191,80 +193,94 @@ shelf = 0x73 ∷ 0x68 ∷ 0x65 ∷ 0x6C ∷ 0x66 ∷ 0x20 ∷ 0x31 ∷ 0 ∷ []
 -- searched, and the magic in every word, the last two without room
 unfoldable pub longRows : List Row
 longRows =
-    record { bytes = 9000; place = 8184; words = headerMagic ∷ 0 ∷ 0xE4524FFE ∷ []; hello = false; string = 0; line = 0; low = 0x9FC00; first = 0x100000; window = 0xC000 } yields refusal 6 0
-    ∷ record { bytes = 8192; place = 0; words = replicate 2048 headerMagic; hello = false; string = 0; line = 0; low = 0x9FC00; first = 0x100000; window = 0xC000 } yields refusal 6 2046
+    record { version = 1; bytes = 9000; place = 8184; words = headerMagic ∷ 0 ∷ 0xE4524FFE ∷ []; hello = false; string = 0; ceiling = 0; line = 0; low = 0x9FC00; first = 0x100000; window = 0xC000 } yields refusal 6 0
+    ∷ record { version = 1; bytes = 8192; place = 0; words = replicate 2048 headerMagic; hello = false; string = 0; ceiling = 0; line = 0; low = 0x9FC00; first = 0x100000; window = 0xC000 } yields refusal 6 2046
     ∷ []
 
 unfoldable pub shortRows : List Row
 shortRows =
     -- flags 0 has the checksum 0xE4524FFE, and 0x00010001 has 0xE4514FFD: headers, but without address fields, or cut off
-    record { bytes = 12; place = 0; words = headerMagic ∷ 0 ∷ 0xE4524FFE ∷ []; hello = false; string = 0; line = 0; low = 0x9FC00; first = 0x100000; window = 0xC000 } yields refusal 8 0
-    ∷ record { bytes = 12; place = 0; words = headerMagic ∷ 0x00010001 ∷ 0xE4514FFD ∷ []; hello = false; string = 0; line = 0; low = 0x9FC00; first = 0x100000; window = 0xC000 } yields refusal 9 0
+    record { version = 1; bytes = 12; place = 0; words = headerMagic ∷ 0 ∷ 0xE4524FFE ∷ []; hello = false; string = 0; ceiling = 0; line = 0; low = 0x9FC00; first = 0x100000; window = 0xC000 } yields refusal 8 0
+    ∷ record { version = 1; bytes = 12; place = 0; words = headerMagic ∷ 0x00010001 ∷ 0xE4514FFD ∷ []; hello = false; string = 0; ceiling = 0; line = 0; low = 0x9FC00; first = 0x100000; window = 0xC000 } yields refusal 9 0
     -- undefined flag bits, where there are no address fields either, and with a sum of 2^33
-    ∷ record { bytes = 12; place = 0; words = headerMagic ∷ 0x00020000 ∷ 0xE4504FFE ∷ []; hello = false; string = 0; line = 0; low = 0x9FC00; first = 0x100000; window = 0xC000 } yields refusal 25 0
-    ∷ record { bytes = 12; place = 0; words = headerMagic ∷ 0xFFFF0001 ∷ 0xE4534FFD ∷ []; hello = false; string = 0; line = 0; low = 0x9FC00; first = 0x100000; window = 0xC000 } yields refusal 25 0
+    ∷ record { version = 1; bytes = 12; place = 0; words = headerMagic ∷ 0x00020000 ∷ 0xE4504FFE ∷ []; hello = false; string = 0; ceiling = 0; line = 0; low = 0x9FC00; first = 0x100000; window = 0xC000 } yields refusal 25 0
+    ∷ record { version = 1; bytes = 12; place = 0; words = headerMagic ∷ 0xFFFF0001 ∷ 0xE4534FFD ∷ []; hello = false; string = 0; ceiling = 0; line = 0; low = 0x9FC00; first = 0x100000; window = 0xC000 } yields refusal 25 0
     -- the last place that is searched
-    ∷ record { bytes = 9000; place = 8180; words = headerMagic ∷ 0 ∷ 0xE4524FFE ∷ []; hello = false; string = 0; line = 0; low = 0x9FC00; first = 0x100000; window = 0xC000 } yields refusal 8 0
+    ∷ record { version = 1; bytes = 9000; place = 8180; words = headerMagic ∷ 0 ∷ 0xE4524FFE ∷ []; hello = false; string = 0; ceiling = 0; line = 0; low = 0x9FC00; first = 0x100000; window = 0xC000 } yields refusal 8 0
     -- three false headers in each other's bytes, and one more without room; one before a header
-    ∷ record { bytes = 20; place = 0; words = headerMagic ∷ headerMagic ∷ headerMagic ∷ headerMagic ∷ []; hello = false; string = 0; line = 0; low = 0x9FC00; first = 0x100000; window = 0xC000 } yields refusal 6 3
-    ∷ record { bytes = 56; place = 0; words = headerMagic ∷ 0 ∷ 0 ∷ 0 ∷ loading 0x100010 0 0 0x100020; hello = false; string = 0; line = 0; low = 0x9FC00; first = 0x100000; window = 0xC000 }
+    ∷ record { version = 1; bytes = 20; place = 0; words = headerMagic ∷ headerMagic ∷ headerMagic ∷ headerMagic ∷ []; hello = false; string = 0; ceiling = 0; line = 0; low = 0x9FC00; first = 0x100000; window = 0xC000 } yields refusal 6 3
+    ∷ record { version = 1; bytes = 56; place = 0; words = headerMagic ∷ 0 ∷ 0 ∷ 0 ∷ loading 0x100010 0 0 0x100020; hello = false; string = 0; ceiling = 0; line = 0; low = 0x9FC00; first = 0x100000; window = 0xC000 }
     yields loaded
     (record { falseHeaders = 1; segments = stretch 0 0x100000 0x100038 0x100038 ∷ []; entry = 0x100020; moduleStart = 0; moduleEnd = 0; blockStart = 0x100038; blockEnd = 0x1000C8 })
     (record { eax = 0x2BADB002; ebx = 0x100038; flags = 0x249; memLower = 639; memUpper = 7168; name = shelf })
     -- a load that begins with the image, and one that would begin before it
-    ∷ record { bytes = 56; place = 16; words = loading 0x100010 0 0 0x100020; hello = false; string = 0; line = 0; low = 0x9FC00; first = 0x100000; window = 0xC000 }
+    ∷ record { version = 1; bytes = 56; place = 16; words = loading 0x100010 0 0 0x100020; hello = false; string = 0; ceiling = 0; line = 0; low = 0x9FC00; first = 0x100000; window = 0xC000 }
     yields loaded
     (record { falseHeaders = 0; segments = stretch 0 0x100000 0x100038 0x100038 ∷ []; entry = 0x100020; moduleStart = 0; moduleEnd = 0; blockStart = 0x100038; blockEnd = 0x1000C8 })
     (record { eax = 0x2BADB002; ebx = 0x100038; flags = 0x249; memLower = 639; memUpper = 7168; name = shelf })
-    ∷ record { bytes = 56; place = 12; words = loading 0x100010 0 0 0x100020; hello = false; string = 0; line = 0; low = 0x9FC00; first = 0x100000; window = 0xC000 } yields refusal 10 0
+    ∷ record { version = 1; bytes = 56; place = 12; words = loading 0x100010 0 0 0x100020; hello = false; string = 0; ceiling = 0; line = 0; low = 0x9FC00; first = 0x100000; window = 0xC000 } yields refusal 10 0
     -- B1 with a load end, a bss end and an entry one too far
-    ∷ record { bytes = 40; place = 0; words = loading 0x100000 0x100029 0x100030 0x100020; hello = true; string = 1; line = 0; low = 0x9FC00; first = 0x100000; window = 0xC000 } yields refusal 12 0
-    ∷ record { bytes = 40; place = 0; words = loading 0x100000 0 0x100027 0x100020; hello = true; string = 1; line = 0; low = 0x9FC00; first = 0x100000; window = 0xC000 } yields refusal 13 0
-    ∷ record { bytes = 40; place = 0; words = loading 0x100000 0 0x100030 0x100028; hello = true; string = 1; line = 0; low = 0x9FC00; first = 0x100000; window = 0xC000 } yields refusal 14 0
+    ∷ record { version = 1; bytes = 40; place = 0; words = loading 0x100000 0x100029 0x100030 0x100020; hello = true; string = 1; ceiling = 0; line = 0; low = 0x9FC00; first = 0x100000; window = 0xC000 } yields refusal 12 0
+    ∷ record { version = 1; bytes = 40; place = 0; words = loading 0x100000 0 0x100027 0x100020; hello = true; string = 1; ceiling = 0; line = 0; low = 0x9FC00; first = 0x100000; window = 0xC000 } yields refusal 13 0
+    ∷ record { version = 1; bytes = 40; place = 0; words = loading 0x100000 0 0x100030 0x100028; hello = true; string = 1; ceiling = 0; line = 0; low = 0x9FC00; first = 0x100000; window = 0xC000 } yields refusal 14 0
     -- B1 in windows that are just long enough for its module, and one byte short
-    ∷ record { bytes = 40; place = 0; words = loading 0x100000 0 0x100030 0x100020; hello = true; string = 1; line = 0; low = 0x9FC00; first = 0x100000; window = 0x1005 }
+    ∷ record { version = 1; bytes = 40; place = 0; words = loading 0x100000 0 0x100030 0x100020; hello = true; string = 1; ceiling = 0; line = 0; low = 0x9FC00; first = 0x100000; window = 0x1005 }
     yields loaded
     (record { falseHeaders = 0; segments = stretch 0 0x100000 0x100028 0x100030 ∷ []; entry = 0x100020; moduleStart = 0x101000; moduleEnd = 0x101005; blockStart = 0x100030; blockEnd = 0x1000D2 })
     (record { eax = 0x2BADB002; ebx = 0x100030; flags = 0x249; memLower = 639; memUpper = 7168; name = shelf })
-    ∷ record { bytes = 40; place = 0; words = loading 0x100000 0 0x100030 0x100020; hello = true; string = 1; line = 0; low = 0x9FC00; first = 0x100000; window = 0x1004 } yields refusal 16 0
+    ∷ record { version = 1; bytes = 40; place = 0; words = loading 0x100000 0 0x100030 0x100020; hello = true; string = 1; ceiling = 0; line = 0; low = 0x9FC00; first = 0x100000; window = 0x1004 } yields refusal 16 0
     -- without its module, in windows that are just long enough for the information block, and one byte short
-    ∷ record { bytes = 40; place = 0; words = loading 0x100000 0 0x100030 0x100020; hello = false; string = 0; line = 0; low = 0x9FC00; first = 0x100000; window = 0xC0 }
+    ∷ record { version = 1; bytes = 40; place = 0; words = loading 0x100000 0 0x100030 0x100020; hello = false; string = 0; ceiling = 0; line = 0; low = 0x9FC00; first = 0x100000; window = 0xC0 }
     yields loaded
     (record { falseHeaders = 0; segments = stretch 0 0x100000 0x100028 0x100030 ∷ []; entry = 0x100020; moduleStart = 0; moduleEnd = 0; blockStart = 0x100030; blockEnd = 0x1000C0 })
     (record { eax = 0x2BADB002; ebx = 0x100030; flags = 0x249; memLower = 639; memUpper = 7168; name = shelf })
-    ∷ record { bytes = 40; place = 0; words = loading 0x100000 0 0x100030 0x100020; hello = false; string = 0; line = 0; low = 0x9FC00; first = 0x100000; window = 0xBF } yields refusal 17 0
+    ∷ record { version = 1; bytes = 40; place = 0; words = loading 0x100000 0 0x100030 0x100020; hello = false; string = 0; ceiling = 0; line = 0; low = 0x9FC00; first = 0x100000; window = 0xBF } yields refusal 17 0
     -- the same with 641 KiB of usable memory from 0 on, of which the kernel is told 640
-    ∷ record { bytes = 40; place = 0; words = loading 0x100000 0 0x100030 0x100020; hello = false; string = 0; line = 0; low = 0xA0400; first = 0x100000; window = 0xC0 }
+    ∷ record { version = 1; bytes = 40; place = 0; words = loading 0x100000 0 0x100030 0x100020; hello = false; string = 0; ceiling = 0; line = 0; low = 0xA0400; first = 0x100000; window = 0xC0 }
     yields loaded
     (record { falseHeaders = 0; segments = stretch 0 0x100000 0x100028 0x100030 ∷ []; entry = 0x100020; moduleStart = 0; moduleEnd = 0; blockStart = 0x100030; blockEnd = 0x1000C0 })
     (record { eax = 0x2BADB002; ebx = 0x100030; flags = 0x249; memLower = 640; memUpper = 7168; name = shelf })
     -- a kernel that ends at 0x500, and one that begins a byte below it, in usable memory; one at 0x500 passes 15, and a window
     -- below 1 MiB has no room for the information block
-    ∷ record { bytes = 32; place = 0; words = alone 0x4E0; hello = false; string = 0; line = 0; low = 0x9FC00; first = 0; window = 0x800 } yields refusal 15 0
-    ∷ record { bytes = 32; place = 0; words = alone 0x4FF; hello = false; string = 0; line = 0; low = 0x9FC00; first = 0; window = 0x800 } yields refusal 15 0
-    ∷ record { bytes = 32; place = 0; words = alone 0x500; hello = false; string = 0; line = 0; low = 0x9FC00; first = 0; window = 0x800 } yields refusal 17 0
+    ∷ record { version = 1; bytes = 32; place = 0; words = alone 0x4E0; hello = false; string = 0; ceiling = 0; line = 0; low = 0x9FC00; first = 0; window = 0x800 } yields refusal 15 0
+    ∷ record { version = 1; bytes = 32; place = 0; words = alone 0x4FF; hello = false; string = 0; ceiling = 0; line = 0; low = 0x9FC00; first = 0; window = 0x800 } yields refusal 15 0
+    ∷ record { version = 1; bytes = 32; place = 0; words = alone 0x500; hello = false; string = 0; ceiling = 0; line = 0; low = 0x9FC00; first = 0; window = 0x800 } yields refusal 17 0
     -- the longest command line, and one byte more
-    ∷ record { bytes = 40; place = 0; words = loading 0x100000 0 0x100030 0x100020; hello = false; string = 0; line = 255; low = 0x9FC00; first = 0x100000; window = 0x1C0 }
+    ∷ record { version = 1; bytes = 40; place = 0; words = loading 0x100000 0 0x100030 0x100020; hello = false; string = 0; ceiling = 0; line = 255; low = 0x9FC00; first = 0x100000; window = 0x1C0 }
     yields loaded
     (record { falseHeaders = 0; segments = stretch 0 0x100000 0x100028 0x100030 ∷ []; entry = 0x100020; moduleStart = 0; moduleEnd = 0; blockStart = 0x100030; blockEnd = 0x1001C0 })
     (record { eax = 0x2BADB002; ebx = 0x100030; flags = 0x24D; memLower = 639; memUpper = 7168; name = shelf })
-    ∷ record { bytes = 40; place = 0; words = loading 0x100000 0 0x100030 0x100020; hello = false; string = 0; line = 256; low = 0x9FC00; first = 0x100000; window = 0xC000 } yields refusal 2 0
+    ∷ record { version = 1; bytes = 40; place = 0; words = loading 0x100000 0 0x100030 0x100020; hello = false; string = 0; ceiling = 0; line = 256; low = 0x9FC00; first = 0x100000; window = 0xC000 } yields refusal 2 0
     -- B1 with the longest string, and one byte more
-    ∷ record { bytes = 40; place = 0; words = loading 0x100000 0 0x100030 0x100020; hello = true; string = 127; line = 0; low = 0x9FC00; first = 0x100000; window = 0x1005 }
+    ∷ record { version = 1; bytes = 40; place = 0; words = loading 0x100000 0 0x100030 0x100020; hello = true; string = 127; ceiling = 0; line = 0; low = 0x9FC00; first = 0x100000; window = 0x1005 }
     yields loaded
     (record { falseHeaders = 0; segments = stretch 0 0x100000 0x100028 0x100030 ∷ []; entry = 0x100020; moduleStart = 0x101000; moduleEnd = 0x101005; blockStart = 0x100030; blockEnd = 0x100150 })
     (record { eax = 0x2BADB002; ebx = 0x100030; flags = 0x249; memLower = 639; memUpper = 7168; name = shelf })
-    ∷ record { bytes = 40; place = 0; words = loading 0x100000 0 0x100030 0x100020; hello = true; string = 128; line = 0; low = 0x9FC00; first = 0x100000; window = 0xC000 } yields refusal 2 0
+    ∷ record { version = 1; bytes = 40; place = 0; words = loading 0x100000 0 0x100030 0x100020; hello = true; string = 128; ceiling = 0; line = 0; low = 0x9FC00; first = 0x100000; window = 0xC000 } yields refusal 2 0
+    -- version 2: under a ceiling of 2 MiB the module ends three bytes below it, and the information block stands above; one word
+    -- higher it would end a byte above it, so that there is no room, and without a ceiling there is
+    ∷ record { version = 2; bytes = 32; place = 0; words = alone 0x1FFFD8; hello = true; string = 1; ceiling = 2; line = 0; low = 0x9FC00; first = 0x1FFFD8; window = 0xCA }
+    yields loaded
+    (record { falseHeaders = 0; segments = stretch 0 0x1FFFD8 0x1FFFF8 0x1FFFF8 ∷ []; entry = 0x1FFFD8; moduleStart = 0x1FFFF8; moduleEnd = 0x1FFFFD; blockStart = 0x200000; blockEnd = 0x2000A2 })
+    (record { eax = 0x2BADB002; ebx = 0x200000; flags = 0x249; memLower = 639; memUpper = 7168; name = shelf })
+    ∷ record { version = 2; bytes = 32; place = 0; words = alone 0x1FFFDC; hello = true; string = 1; ceiling = 2; line = 0; low = 0x9FC00; first = 0x1FFFDC; window = 0xCA } yields refusal 16 0
+    ∷ record { version = 2; bytes = 32; place = 0; words = alone 0x1FFFDC; hello = true; string = 1; ceiling = 0; line = 0; low = 0x9FC00; first = 0x1FFFDC; window = 0xCA }
+    yields loaded
+    (record { falseHeaders = 0; segments = stretch 0 0x1FFFDC 0x1FFFFC 0x1FFFFC ∷ []; entry = 0x1FFFDC; moduleStart = 0x1FFFFC; moduleEnd = 0x200001; blockStart = 0x200004; blockEnd = 0x2000A6 })
+    (record { eax = 0x2BADB002; ebx = 0x200004; flags = 0x249; memLower = 639; memUpper = 7168; name = shelf })
+    -- a ceiling in version 1, and version 3
+    ∷ record { version = 1; bytes = 32; place = 0; words = alone 0x1FFFD8; hello = true; string = 1; ceiling = 2; line = 0; low = 0x9FC00; first = 0x1FFFD8; window = 0xCA } yields refusal 2 0
+    ∷ record { version = 3; bytes = 32; place = 0; words = alone 0x1FFFD8; hello = true; string = 1; ceiling = 2; line = 0; low = 0x9FC00; first = 0x1FFFD8; window = 0xCA } yields refusal 1 0
     -- an ELF image of two segments, with the module between them and the information block behind
-    ∷ record { bytes = 136; place = 0; words = linked 0x00030002 0x100080 0x1000A0 4; hello = true; string = 1; line = 0; low = 0x9FC00; first = 0x100000; window = 0x152 }
+    ∷ record { version = 1; bytes = 136; place = 0; words = linked 0x00030002 0x100080 0x1000A0 4; hello = true; string = 1; ceiling = 0; line = 0; low = 0x9FC00; first = 0x100000; window = 0x152 }
     yields loaded
     (record { falseHeaders = 0; segments = stretch 0 0x100000 0x100088 0x100090 ∷ stretch 0x80 0x1000A0 0x1000A4 0x1000B0 ∷ []; entry = 0x100080; moduleStart = 0x100090; moduleEnd = 0x100095; blockStart = 0x1000B0; blockEnd = 0x100152 })
     (record { eax = 0x2BADB002; ebx = 0x1000B0; flags = 0x249; memLower = 639; memUpper = 7168; name = shelf })
     -- another type, file bytes past the image, segments that share one byte, and an entry in the zeros of the first
-    ∷ record { bytes = 136; place = 0; words = linked 0x00030003 0x100080 0x1000A0 4; hello = true; string = 1; line = 0; low = 0x9FC00; first = 0x100000; window = 0xC000 } yields refusal 18 0
-    ∷ record { bytes = 136; place = 0; words = linked 0x00030002 0x100080 0x1000A0 9; hello = true; string = 1; line = 0; low = 0x9FC00; first = 0x100000; window = 0xC000 } yields refusal 19 0
-    ∷ record { bytes = 136; place = 0; words = linked 0x00030002 0x100080 0x10008F 4; hello = true; string = 1; line = 0; low = 0x9FC00; first = 0x100000; window = 0xC000 } yields refusal 20 0
-    ∷ record { bytes = 136; place = 0; words = linked 0x00030002 0x100088 0x1000A0 4; hello = true; string = 1; line = 0; low = 0x9FC00; first = 0x100000; window = 0xC000 } yields refusal 14 0
+    ∷ record { version = 1; bytes = 136; place = 0; words = linked 0x00030003 0x100080 0x1000A0 4; hello = true; string = 1; ceiling = 0; line = 0; low = 0x9FC00; first = 0x100000; window = 0xC000 } yields refusal 18 0
+    ∷ record { version = 1; bytes = 136; place = 0; words = linked 0x00030002 0x100080 0x1000A0 9; hello = true; string = 1; ceiling = 0; line = 0; low = 0x9FC00; first = 0x100000; window = 0xC000 } yields refusal 19 0
+    ∷ record { version = 1; bytes = 136; place = 0; words = linked 0x00030002 0x100080 0x10008F 4; hello = true; string = 1; ceiling = 0; line = 0; low = 0x9FC00; first = 0x100000; window = 0xC000 } yields refusal 20 0
+    ∷ record { version = 1; bytes = 136; place = 0; words = linked 0x00030002 0x100088 0x1000A0 4; hello = true; string = 1; ceiling = 0; line = 0; low = 0x9FC00; first = 0x100000; window = 0xC000 } yields refusal 14 0
     ∷ []
 
 abbrev pub rows : List Row

@@ -44,8 +44,9 @@ use Rattle.board.specs.OpenEdge.{openEdge}
 use Rattle.board.specs.Window.{windowChecks}
 use Rattle.placement.specs.Free.{takenBy, isTaken, isFree}
 use Rattle.placement.specs.FreeEdge.{takenEdge, freeEdge}
+use Rattle.placement.specs.Lowest.{underCeiling}
 use Rattle.placement.specs.Order.{withSpan}
-use Rattle.items.specs.LoadItems.{extentsOf, loadItem, itemsOf, moduleSpans}
+use Rattle.items.specs.LoadItems.{extentsOf, ceilingOf, loadItem, itemsOf, moduleSpans}
 use Rattle.decision.specs.Decided.{extentOpen, kernelOpen, kernelChecks, roomChecks, planOf, decidedBy}
 use Rattle.decision.specs.Plan.{noPlan}
 use Rattle.decision.specs.Read.{imageIn}
@@ -102,7 +103,7 @@ unfolding longRows countedUpTo isFalseHeader words isHeader headerFrom header la
 long-counted = refl
 
 computed-short : map (λ (r : Row). modelOutcome (r .input)) shortRows ≡ map (λ (r : Row). r .outcome) shortRows
-unfolding shortRows columns modelIn decisionWith modelDecision contentsWith writesWith memoryWith modelMemory segmentWrite moduleWrite lentChecks extentOpen kernelOpen kernelChecks roomChecks planOf noPlan decidedBy extentsOf loadItem itemsOf moduleSpans structureWords textSize textsSize blockLength structureFor entryWords entries partsOf blockOf stringLengths bootModules walk computed computedFrom runEnd computedLower computedUpper withSpan takenBy isTaken isFree takenEdge freeEdge windowChecks openEdge isOpen mapEdge covers usableBy barredBy isUsable nextOffset pairOffset begins pairCount tooSmall pastEnd badMap mapChecks pairAt firstPairs parsedMap unknownKind headerChecks loadChecks fieldChecks kindChecks entryChecks imageChecks kernelFor fieldsKernel kernelOf elfHeader programHeaderAt isSegment segmentsAmong elfKernel rightKind tableFits wellFormed fits badHeader badNo elfChecks kernelWith entryIn entryOutside overlapNo overlapsEarlier extentsOverlap overlap passing onlyIf fieldsAt loadLength words isHeader headerFrom header isFalseHeader isFalseHeaderAt falseHeaders operatorChecks lineInForce commandLine isSubmission inLimits stringHolds rulesHold submissionChecks dataStart layoutOf hasZero sameBytes nearest spanEdge edgeUpTo roundUp inside patched written number numberBytes wordBytes firstOf passes listed any allFrom run
+unfolding shortRows columns modelIn decisionWith modelDecision contentsWith writesWith memoryWith modelMemory segmentWrite moduleWrite lentChecks extentOpen kernelOpen kernelChecks roomChecks planOf noPlan decidedBy extentsOf ceilingOf loadItem itemsOf moduleSpans structureWords textSize textsSize blockLength structureFor entryWords entries partsOf blockOf stringLengths bootModules walk underCeiling computed computedFrom runEnd computedLower computedUpper withSpan takenBy isTaken isFree takenEdge freeEdge windowChecks openEdge isOpen mapEdge covers usableBy barredBy isUsable nextOffset pairOffset begins pairCount tooSmall pastEnd badMap mapChecks pairAt firstPairs parsedMap unknownKind headerChecks loadChecks fieldChecks kindChecks entryChecks imageChecks kernelFor fieldsKernel kernelOf elfHeader programHeaderAt isSegment segmentsAmong elfKernel rightKind tableFits wellFormed fits badHeader badNo elfChecks kernelWith entryIn entryOutside overlapNo overlapsEarlier extentsOverlap overlap passing onlyIf fieldsAt loadLength words isHeader headerFrom header isFalseHeader isFalseHeaderAt falseHeaders operatorChecks lineInForce commandLine isSubmission inLimits stringHolds rulesHold submissionChecks dataStart layoutOf hasZero sameBytes nearest spanEdge edgeUpTo roundUp inside patched written number numberBytes wordBytes firstOf passes listed any allFrom run
 computed-short = refl
 
 computed-rows : map (λ (r : Row). modelOutcome (r .input)) rows ≡ map (λ (r : Row). r .outcome) rows

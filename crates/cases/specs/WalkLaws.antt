@@ -22,19 +22,20 @@ use Rattle.placement.specs.declared.Place.the-variants.{At, NoRoom}
 use Rattle.placement.specs.declared.Placed.{Placed}
 use Rattle.placement.specs.Free.{isFree}
 use Rattle.placement.specs.FreeEdge.{freeEdge}
-use Rattle.placement.specs.Lowest.{lowestPlace}
+use Rattle.placement.specs.Lowest.{underCeiling, lowestPlace}
 use Rattle.placement.specs.Order.{itemNo, spanOf, withSpan, after, placedFrom, placeItems}
-use Rattle.placement.specs.StepLaws.{Walked, step-start, step-on, step-past, step-found, step-end}
+use Rattle.placement.specs.StepLaws.{Walked, step-start, step-on, step-past, step-found, step-end, step-ceiling}
 
 module _ (b : Board) (t : Spans) (q : Item) where
   -- from the candidate a, with x reached; k bounds the steps
   unfoldable pub walk : ℕ → ℕ → ℕ → Place
-  walk zero a x = cond (ltb (x - a) (q .length)) NoRoom (At (record { 0 = a }))
+  walk zero a x = cond (underCeiling q a) (cond (ltb (x - a) (q .length)) NoRoom (At (record { 0 = a }))) NoRoom
   walk (suc k) a x =
       let e = freeEdge b t x in
       let on = walk k a e in
       let past = walk k (roundUp e (boundaryOf (q .pages))) (roundUp e (boundaryOf (q .pages))) in
-      cond (ltb (x - a) (q .length)) (cond (leb (b .window .end .0) x) NoRoom (cond (isFree (isOpen b) t x) on past)) (At (record { 0 = a }))
+      let step = cond (leb (b .window .end .0) x) NoRoom (cond (isFree (isOpen b) t x) on past) in
+      cond (underCeiling q a) (cond (ltb (x - a) (q .length)) step (At (record { 0 = a }))) NoRoom
 
   unfoldable pub computed : Place
   computed = walk (b .window .end .0) (roundUp floor (boundaryOf (q .pages))) (roundUp floor (boundaryOf (q .pages)))
@@ -44,26 +45,34 @@ module _ (b : Board) (t : Spans) (q : Item) where
     unfolding walk
     walk-is zero a x l w =
         ⊎-elim
-        (λ s. rw (lt-ltb (x - a) (q .length) s) (step-end b t q small a x w s (omega arith)))
-        (λ s. rw (le-ltb (x - a) (q .length) s) (step-found b t q small a x w s))
-        (lt-or-le (x - a) (q .length))
+        (λ (u : underCeiling q a ≡ true).
+        ⊎-elim
+        (λ s. rw (u, lt-ltb (x - a) (q .length) s) (step-end b t q small a x w s (omega arith)))
+        (λ s. rw (u, le-ltb (x - a) (q .length) s) (step-found b t q small a x w u s))
+        (lt-or-le (x - a) (q .length)))
+        (λ (u : underCeiling q a ≡ false). rw u (step-ceiling b t q small a x w u))
+        (true-or-false (underCeiling q a))
     walk-is (suc k) a x l w =
         let e : ℕ = freeEdge b t x in
         let r : ℕ = roundUp e (boundaryOf (q .pages)) in
+        ⊎-elim
+        (λ (u : underCeiling q a ≡ true).
         ⊎-elim
         (λ s. ⊎-elim
         (λ i. ⊎-elim
         (λ (f : isFree (isOpen b) t x ≡ true).
         let n = step-on b t q small a x e w i refl f in
-        rw (lt-ltb (x - a) (q .length) s, lt-leb (b .window .end .0) x i, f) (walk-is k a e (omega arith) (n .1)))
+        rw (u, lt-ltb (x - a) (q .length) s, lt-leb (b .window .end .0) x i, f) (walk-is k a e (omega arith) (n .1)))
         (λ (f : isFree (isOpen b) t x ≡ false).
         let n = step-past b t q small a x e w i refl r s f refl in
-        rw (lt-ltb (x - a) (q .length) s, lt-leb (b .window .end .0) x i, f) (walk-is k r r (omega arith) (n .1)))
+        rw (u, lt-ltb (x - a) (q .length) s, lt-leb (b .window .end .0) x i, f) (walk-is k r r (omega arith) (n .1)))
         (true-or-false (isFree (isOpen b) t x)))
-        (λ i. rw (lt-ltb (x - a) (q .length) s, le-leb (b .window .end .0) x i) (step-end b t q small a x w s i))
+        (λ i. rw (u, lt-ltb (x - a) (q .length) s, le-leb (b .window .end .0) x i) (step-end b t q small a x w s i))
         (lt-or-le x (b .window .end .0)))
-        (λ s. rw (le-ltb (x - a) (q .length) s) (step-found b t q small a x w s))
-        (lt-or-le (x - a) (q .length))
+        (λ s. rw (u, le-ltb (x - a) (q .length) s) (step-found b t q small a x w u s))
+        (lt-or-le (x - a) (q .length)))
+        (λ (u : underCeiling q a ≡ false). rw u (step-ceiling b t q small a x w u))
+        (true-or-false (underCeiling q a))
 
     pub place-computes : lowestPlace (isOpen b) t q ≡ computed
     unfolding computed

@@ -1,4 +1,5 @@
 // The items of a load, the kernel's extents that they are placed beside, and the spans of the modules among those placed.
+use address::PhysAddr;
 use address::Span;
 use kernel::Kernel;
 use placement::Item;
@@ -10,7 +11,10 @@ ghost use Prim.Native.Nat.{_+_, _≤_};
 ghost use Rattle.submission.specs.Format.{maxModules};
 ghost use Rattle.placement.specs.Free.{maxSpans};
 ghost use Rattle.kernel.specs.Kernel.{maxSegments};
-ghost use Rattle.items.specs.LoadItems.{extentsOf, loadItem, itemsOf, moduleSpans};
+ghost use Rattle.items.specs.LoadItems.{extentsOf, ceilingOf, loadItem, itemsOf, moduleSpans};
+
+// The unit of a ceiling.
+const MIB: u64 = 0x100000;
 
 // The kernel's extents, as spans taken.
 pub fn extents(kernel: Kernel) -> Spans
@@ -34,6 +38,7 @@ pub fn items(layout: Layout, pages: bool, size: u64) -> Items
     let none = Item {
         length: 0,
         pages: false,
+        ceiling: PhysAddr(0),
     };
     let mut list = [none; placement::MAX_ITEMS];
     let mut i = 0;
@@ -54,12 +59,24 @@ fn item(layout: Layout, pages: bool, size: u64, i: usize) -> Item
         return Item {
             length: m.data.len as u64,
             pages,
+            ceiling: ceiling(layout.ceilings[i]),
         };
     }
     Item {
         length: size,
         pages: false,
+        ceiling: PhysAddr(usable::ADDRESS_SPACE),
     }
+}
+
+// Where a module with a ceiling of so many MiB ends at the latest; 0 is none, and then it is where addresses end.
+fn ceiling(count: u16) -> PhysAddr
+    ensures { λ r. ⌜ r ≡ record { 0 = ceilingOf count } ⌝ }
+{
+    if count == 0 {
+        return PhysAddr(usable::ADDRESS_SPACE);
+    }
+    PhysAddr(count as u64 * MIB)
 }
 
 // The spans of `count` modules among those placed, of which the first is at the index `from`.

@@ -34,10 +34,11 @@ impl Spans {
     }
 }
 
-// What is to be placed: so many bytes, on a page boundary or on one of four bytes.
+// What is to be placed: so many bytes, on a page boundary or on one of four bytes, that end at or below the ceiling.
 pub struct Item {
     pub length: u64,
     pub pages: bool,
+    pub ceiling: PhysAddr,
 }
 
 // The items of a load: the modules, then the information block.

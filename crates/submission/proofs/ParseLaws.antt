@@ -1,5 +1,5 @@
 -- What decides on a submission, test by test.
---     count-is, line-is                          fields of the layout that was read
+--     count-is, line-is, end-is                  fields of the layout that was read
 --     too-many, .. zero-in-line, else-strings    whether the rules hold
 --     not-parsed, bad-parsed, good-parsed        what the parse gives
 -- Assumes nothing.
@@ -17,7 +17,7 @@ use Rattle.submission.specs.Scan.{hasZero}
 use Rattle.submission.specs.Format.{moduleCount, lineLength, partsEnd, maxModules}
 use Rattle.submission.specs.Layout.{linePart, layoutOf, bytesOf}
 use Rattle.submission.specs.Parse.{noLayout, parsedSubmission}
-use Rattle.submission.specs.FormatLaws.{layout-line, layout-count}
+use Rattle.submission.specs.FormatLaws.{layout-line, layout-count, layout-end}
 use Rattle.submission.specs.Rules.{maxLine, isSubmission, entryHolds, stringHolds, rulesHold, submissionChecks}
 use Rattle.submission.specs.declared.Layout.{Layout}
 
@@ -28,6 +28,9 @@ module _ (s : List ℕ) (l : Layout) (q : l ≡ layoutOf s) where
 
   pub line-is : l .line ≡ linePart s
   line-is = ap (λ (m : Layout). m .line) q ∙ layout-line s
+
+  pub end-is : l .end ≡ partsEnd s
+  end-is = ap (λ (m : Layout). m .end) q ∙ layout-end s
 
 module _ (s : List ℕ) where
   pub too-many : maxModules < moduleCount s → rulesHold s ≡ false

@@ -1,6 +1,7 @@
 -- One turn of the loops over the modules.
 --     hold-more                  one module more that passes a test
 --     modules-more, next-data    one module more in the table, and where the next one's data begins
+--     ceilings-more              one ceiling more in the table
 -- Assumes nothing.
 use mathlib.Core.Path.{_≡_, ap, sym, _∙_}
 use mathlib.Core.Bool.{Bool, true}
@@ -11,8 +12,8 @@ use lib.ListN.{set}
 use Rattle.laws.specs.Tests.{allFrom}
 use Rattle.laws.specs.TestLaws.{all-more}
 use Rattle.laws.specs.TableLaws.{table-more}
-use Rattle.submission.specs.Format.{dataStart, maxModules}
-use Rattle.submission.specs.Layout.{tableEntry, moduleFrom, moduleOf, noModule, moduleTable}
+use Rattle.submission.specs.Format.{dataStart, ceiling, maxModules}
+use Rattle.submission.specs.Layout.{tableEntry, moduleFrom, moduleOf, noModule, moduleTable, ceilingTable}
 use Rattle.submission.specs.FormatLaws.{data-behind-string}
 use Rattle.submission.specs.declared.read.TableEntry.{TableEntry}
 use Rattle.submission.specs.declared.Module.{Module}
@@ -30,3 +31,6 @@ module _ (s : List ℕ) (i at : ℕ) (e : TableEntry) (r : Module) (d : at ≡ d
 
   pub next-data : r .string .at + r .string .len ≡ dataStart s (i + 1)
   next-data = ap (λ (m : Module). m .string .at + m .string .len) read-module ∙ sym (data-behind-string s i)
+
+pub ceilings-more : (s : List ℕ) (i : ℕ) (e : TableEntry) (cs : List ℕ) → e ≡ tableEntry s i → cs ≡ ceilingTable s i → i < maxModules → set cs i (e .ceiling) ≡ ceilingTable s (i + 1)
+ceilings-more s i e cs q h l = rw (h, ap (λ (t : TableEntry). t .ceiling) q) (table-more (ceiling s) maxModules 0 i l)

@@ -1,6 +1,6 @@
--- The KSB format, version 1: its fields, and where its parts lie.                  rule: SUBMISSION
+-- The KSB format, versions 1 and 2: its fields, and where its parts lie.           rule: SUBMISSION
 --     mark, version, moduleCount, imageLength, lineLength    the prefix
---     dataLength, stringLength, reserved                     the entry of a module
+--     dataLength, stringLength, ceiling                      the entry of a module
 --     imageStart, lineStart, dataStart, stringStart          the parts, one behind the other, by exact whole numbers
 --     partsEnd                                               where the last part ends
 --     imageBytes, lineBytes, stringBytes                     their bytes
@@ -50,9 +50,9 @@ dataLength s i = numberAt 4 s (entryOffset i)
 abbrev pub stringLength : List ℕ → ℕ → ℕ
 stringLength s i = numberAt 2 s (entryOffset i + 4)
 
--- at 6 of an entry, 2 bytes
-abbrev pub reserved : List ℕ → ℕ → ℕ
-reserved s i = numberAt 2 s (entryOffset i + 6)
+-- at 6 of an entry, 2 bytes: in MiB, 0 for none; version 1 has zero here
+abbrev pub ceiling : List ℕ → ℕ → ℕ
+ceiling s i = numberAt 2 s (entryOffset i + 6)
 
 -- then the image, the command line, and for each module its data and its string
 abbrev pub imageStart : List ℕ → ℕ

@@ -2,8 +2,9 @@
 --     line-behind-image, data-behind-line, string-behind-data, data-behind-string    one behind the other
 --     data-order                                a later module lies further on
 --     length-bytesOf, bytesOf-at                a part that lies inside is whole; its bytes
---     layout-line, layout-count                 the fields of the layout
+--     layout-line, layout-count, layout-end     the fields of the layout
 --     length-modules, module-at, module-past    its table of modules
+--     ceiling-at                                its table of ceilings
 -- Assumes nothing.
 use mathlib.Core.Path.{_≡_, refl, ap}
 use mathlib.Core.Logic.{⊎-elim}
@@ -15,8 +16,8 @@ use native.Mathlib.Omega.{arith}
 use lib.ListN.{length, getD, length-take, length-drop}
 use lib.Seq.{getD-take, getD-drop}
 use Rattle.laws.specs.TableLaws.{length-table, table-at, table-past}
-use Rattle.submission.specs.Format.{moduleCount, imageLength, lineLength, dataLength, stringLength, imageStart, lineStart, dataStart, stringStart, maxModules}
-use Rattle.submission.specs.Layout.{linePart, moduleOf, noModule, layoutOf, moduleNo, bytesOf}
+use Rattle.submission.specs.Format.{moduleCount, imageLength, lineLength, dataLength, stringLength, imageStart, lineStart, dataStart, stringStart, partsEnd, ceiling, maxModules}
+use Rattle.submission.specs.Layout.{linePart, moduleOf, noModule, layoutOf, moduleNo, ceilingNo, bytesOf}
 use Rattle.submission.specs.declared.Part.{Part}
 
 module _ (s : List ℕ) where
@@ -53,6 +54,10 @@ module _ (s : List ℕ) where
   unfolding layoutOf
   layout-count = refl
 
+  pub layout-end : layoutOf s .end ≡ partsEnd s
+  unfolding layoutOf
+  layout-end = refl
+
   pub length-bytesOf : (p : Part) → p .at + p .len ≤ length s → length (bytesOf s p) ≡ p .len
   length-bytesOf p h = simp (length-take, length-drop) (omega arith)
 
@@ -71,3 +76,7 @@ module _ (s : List ℕ) where
   pub module-past : (i : ℕ) → moduleCount s ≤ i → moduleNo (layoutOf s) i ≡ noModule
   unfolding layoutOf
   module-past i h = table-past (moduleOf s) maxModules noModule (moduleCount s) i h
+
+  pub ceiling-at : (i : ℕ) → i < moduleCount s → ceilingNo (layoutOf s) i ≡ ceiling s i
+  unfolding layoutOf
+  ceiling-at i h = table-at (ceiling s) maxModules 0 (moduleCount s) i h

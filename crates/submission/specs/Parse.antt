@@ -14,7 +14,7 @@ use Rattle.submission.specs.declared.Layout.{Layout}
 use Rattle.submission.specs.Rules.{submissionChecks}
 
 unfoldable pub noLayout : Layout
-noLayout = record { image = noPart; line = noPart; modules = replicate maxModules noModule; count = 0 }
+noLayout = record { image = noPart; line = noPart; modules = replicate maxModules noModule; ceilings = replicate maxModules 0; count = 0; end = 0 }
 
 -- the answer, and the layout where it is 0
 unfoldable pub parsedSubmission : List ℕ → ParsedSubmission

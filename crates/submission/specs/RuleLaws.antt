@@ -7,10 +7,11 @@
 --     parsed-layout, parsed-none, parsed-modules               what a parse gives
 -- Assumes nothing.
 use mathlib.Core.Path.{_≡_, refl, _∙_}
-use mathlib.Core.Bool.{Bool, true, false, not, _&&_, false≢true}
-use mathlib.Core.Logic.{⊎-elim, _↔_}
+use mathlib.Core.Bool.{Bool, true, false, not, _&&_, _||_, false≢true}
+use mathlib.Core.Logic.{⊎-elim, _⊎_, inl, inr, _↔_}
 use mathlib.Core.List.{List}
 use Prim.Native.Nat.{ℕ, _+_, _^_, _≤_, _<_}
+use native.Mathlib.Nat.{eq-or-lt-of-le}
 use native.Mathlib.Omega.{arith}
 use borrow.Author.Tests.{leb-true, le-leb, eqb-true, eq-eqb, not-true, not-false}
 use lib.Dec.{leb, eqb}
@@ -22,7 +23,7 @@ use Rattle.number.specs.NumberLaws.{Bytes, bytes-drop, number-bound}
 use Rattle.answer.specs.ChainLaws.{refuses}
 use Rattle.submission.specs.Scan.{hasZero, sameBytes}
 use Rattle.submission.specs.ScanLaws.{no-zero, same-is, zero-free}
-use Rattle.submission.specs.Format.{mark, version, moduleCount, imageLength, lineLength, prefixSize, entryOffset, dataLength, stringLength, reserved, imageStart, lineStart, dataStart, stringStart, partsEnd, lineBytes, stringBytes, maxModules}
+use Rattle.submission.specs.Format.{mark, version, moduleCount, imageLength, lineLength, prefixSize, entryOffset, dataLength, stringLength, ceiling, imageStart, lineStart, dataStart, stringStart, partsEnd, lineBytes, stringBytes, maxModules}
 use Rattle.submission.specs.Layout.{linePart, moduleOf, layoutOf, bytesOf}
 use Rattle.submission.specs.Parse.{noLayout, parsedSubmission}
 use Rattle.submission.specs.FormatLaws.{data-behind-line, data-behind-string, data-order, length-bytesOf, bytesOf-at, layout-count}
@@ -45,19 +46,35 @@ six true true false d e f h = absurd (false≢true h)
 six true false c d e f h = absurd (false≢true h)
 six false b c d e f h = absurd (false≢true h)
 
+-- version 1 or 2
+one-or-two : (v : ℕ) → 1 ≤ v → v ≤ 2 → (v ≡ 1) ⊎ (v ≡ 2)
+one-or-two v l u = ⊎-elim (λ (e : v ≡ 2). inr e) (λ (m : v < 2). inl (omega arith)) (eq-or-lt-of-le u)
+
+-- in version 1 zero for a ceiling c
+no-ceiling-is : (v c : ℕ) → (not (eqb v 1) || eqb c 0 ≡ true) ↔ (v ≡ 1 → c ≡ 0)
+no-ceiling-is v c = (
+  λ h e. eqb-true c 0 (rw (eq-eqb v 1 e) at h),
+  λ h. ⊎-elim (λ (t : eqb v 1 ≡ true). rw (t, eq-eqb c 0 (h (eqb-true v 1 t))) refl) (λ (t : eqb v 1 ≡ false). rw t refl) (true-or-false (eqb v 1)),
+)
+
 module _ (s : List ℕ) where
   pub submission-refuses : refuses (submissionChecks s) ≡ true
   unfolding refuses submissionChecks
   submission-refuses = refl
 
-  header-facts : isSubmission s ≡ true → (prefixSize ≤ length s) × (take 3 s ≡ mark) × (version s ≡ 1)
+  header-facts : isSubmission s ≡ true → (prefixSize ≤ length s) × (take 3 s ≡ mark) × ((version s ≡ 1) ⊎ (version s ≡ 2))
   unfolding isSubmission
   header-facts h =
       let a = leb prefixSize (length s) in
       let b = sameBytes (take 3 s) mark in
-      let c = eqb (version s) 1 in
-      let ab = and-left (a && b) c h in
-      (leb-true prefixSize (length s) (and-left a b ab), same-is (take 3 s) mark .0 (and-right a b ab), eqb-true _ _ (and-right (a && b) c h))
+      let c = leb 1 (version s) in
+      let d = leb (version s) 2 in
+      let abc = and-left (a && b && c) d h in
+      let ab = and-left (a && b) c abc in (
+        leb-true prefixSize (length s) (and-left a b ab),
+        same-is (take 3 s) mark .0 (and-right a b ab),
+        one-or-two (version s) (leb-true _ _ (and-right (a && b) c abc)) (leb-true _ _ (and-right (a && b && c) d h)),
+      )
 
   is-submission : passes (submissionChecks s) ≡ true → isSubmission s ≡ true
   unfolding passes submissionChecks
@@ -86,15 +103,15 @@ module _ (s : List ℕ) where
   unfolding rulesHold
   rules-apart h = six _ _ _ _ _ _ h
 
-  entry-facts : allFrom (entryHolds s) 0 (moduleCount s) ≡ true → (i : ℕ) → i < moduleCount s → (1 ≤ dataLength s i) × (stringLength s i ≤ maxString) × (reserved s i ≡ 0)
+  entry-facts : allFrom (entryHolds s) 0 (moduleCount s) ≡ true → (i : ℕ) → i < moduleCount s → (1 ≤ dataLength s i) × (stringLength s i ≤ maxString) × (version s ≡ 1 → ceiling s i ≡ 0)
   unfolding inLimits
   entry-facts h i l =
       let a = leb 1 (dataLength s i) in
       let b = leb (stringLength s i) maxString in
-      let c = eqb (reserved s i) 0 in
+      let c = not (eqb (version s) 1) || eqb (ceiling s i) 0 in
       let abc = all-elim (entryHolds s) 0 (moduleCount s) h i (omega arith) (omega arith) in
       let ab = and-left (a && b) c abc in
-      (leb-true _ _ (and-left a b ab), leb-true _ _ (and-right a b ab), eqb-true _ _ (and-right (a && b) c abc))
+      (leb-true _ _ (and-left a b ab), leb-true _ _ (and-right a b ab), no-ceiling-is (version s) (ceiling s i) .0 (and-right (a && b) c abc))
 
   string-facts : allFrom (stringHolds s) 0 (moduleCount s) ≡ true → (i : ℕ) → i < moduleCount s → hasZero (bytesOf s (moduleOf s i .string)) ≡ false
   unfolding stringHolds
@@ -105,7 +122,9 @@ module _ (s : List ℕ) where
   unfolding isSubmission
   marked-is = (
     λ h. let f = header-facts h in record { long = f .0; mark = f .1; version = f .2 },
-    λ m. rw (le-leb prefixSize (length s) (m .long), same-is (take 3 s) mark .1 (m .mark), eq-eqb (version s) 1 (m .version)) refl,
+    λ m.
+        let v : (1 ≤ version s) × (version s ≤ 2) = ⊎-elim (λ (e : version s ≡ 1). (omega arith, omega arith)) (λ (e : version s ≡ 2). (omega arith, omega arith)) (m .version) in
+        rw (le-leb prefixSize (length s) (m .long), same-is (take 3 s) mark .1 (m .mark), le-leb 1 (version s) (v .0), le-leb (version s) 2 (v .1)) refl,
   )
 
   -- and those behind 2
@@ -117,7 +136,7 @@ module _ (s : List ℕ) where
         line = leb-true _ _ (r .1);
         bytes = λ i l. entry-facts (r .2) i l .0;
         string = λ i l. entry-facts (r .2) i l .1;
-        zeros = λ i l. entry-facts (r .2) i l .2;
+        zeros = λ e i l. entry-facts (r .2) i l .2 e;
         end = eqb-true _ _ (r .3);
         line-text = no-zero (lineBytes s) (not-true _ (r .4));
         string-text = λ i l. no-zero (stringBytes s i) (string-facts (r .5) i l);
@@ -126,7 +145,7 @@ module _ (s : List ℕ) where
   good-rules : GoodSubmission s → rulesHold s ≡ true
   unfolding rulesHold inLimits stringHolds
   good-rules a =
-      let entry : (i : ℕ) → i < moduleCount s → entryHolds s i ≡ true = λ i m. rw (le-leb 1 (dataLength s i) (a .bytes i m), le-leb (stringLength s i) maxString (a .string i m), eq-eqb (reserved s i) 0 (a .zeros i m)) refl in
+      let entry : (i : ℕ) → i < moduleCount s → entryHolds s i ≡ true = λ i m. rw (le-leb 1 (dataLength s i) (a .bytes i m), le-leb (stringLength s i) maxString (a .string i m), no-ceiling-is (version s) (ceiling s i) .1 (λ e. a .zeros e i m)) refl in
       let text : (i : ℕ) → i < moduleCount s → stringHolds s i ≡ true = λ i m. rw (zero-free (stringBytes s i) (a .string-text i m)) refl in
       rw (
         le-leb (moduleCount s) maxModules (a .count),

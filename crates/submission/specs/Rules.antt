@@ -2,7 +2,7 @@
 --     isSubmission, rulesHold    the rules behind 1, and those behind 2
 --     submissionChecks           1 and 2
 -- Assumes nothing.
-use mathlib.Core.Bool.{Bool, not, _&&_}
+use mathlib.Core.Bool.{Bool, not, _&&_, _||_}
 use mathlib.Core.List.{List, [], _∷_}
 use Prim.Native.Nat.{ℕ}
 use lib.Dec.{leb, eqb}
@@ -23,16 +23,16 @@ maxLine = 255
 abbrev pub maxString : ℕ
 maxString = 127
 
--- at least the prefix's 12 bytes, the mark, and version 1
+-- at least the prefix's 12 bytes, the mark, and version 1 or 2
 unfoldable pub isSubmission : List ℕ → Bool
-isSubmission s = leb prefixSize (length s) && sameBytes (take 3 s) mark && eqb (version s) 1
+isSubmission s = leb prefixSize (length s) && sameBytes (take 3 s) mark && leb 1 (version s) && leb (version s) 2
 
--- an entry in its limits: data of at least one byte, a string that is not too long, and zero
-unfoldable pub inLimits : TableEntry → Bool
-inLimits e = leb 1 (e .bytes) && leb (e .string) maxString && eqb (e .reserved) 0
+-- an entry in its limits: data of at least one byte, a string that is not too long, and in version 1 zero for a ceiling
+unfoldable pub inLimits : ℕ → TableEntry → Bool
+inLimits v e = leb 1 (e .bytes) && leb (e .string) maxString && (not (eqb v 1) || eqb (e .ceiling) 0)
 
 abbrev pub entryHolds : List ℕ → ℕ → Bool
-entryHolds s i = inLimits (tableEntry s i)
+entryHolds s i = inLimits (version s) (tableEntry s i)
 
 -- no zero byte stands in the string of module i
 unfoldable pub stringHolds : List ℕ → ℕ → Bool

@@ -36,12 +36,15 @@ pub struct Module {
     pub string: Part,
 }
 
-// The parts of a submission; past the last module the entries are zero.
+// The parts of a submission, the ceilings of its modules in MiB, and where the last part ends; past the last module the entries
+// are zero.
 pub struct Layout {
     pub image: Part,
     pub line: Part,
     pub modules: [Module; MAX_MODULES],
+    pub ceilings: [u16; MAX_MODULES],
     pub count: usize,
+    pub end: usize,
 }
 
 // The answer for a submission, and its parts where it is accepted.
@@ -61,9 +64,8 @@ pub fn parse(s: &[u8]) -> ParsedSubmission
     if MAX_MODULES < count {
         return refused(Answer::BadSubmission);
     }
-    let laid = read::read_layout(s, count);
-    let layout = laid.layout;
-    if !rules::rules_hold(s, layout, laid.end) {
+    let layout = read::read_layout(s, count);
+    if !rules::rules_hold(s, layout) {
         return refused(Answer::BadSubmission);
     }
     ParsedSubmission {

@@ -1,8 +1,8 @@
 // Where the parts of a submission lie.
 ghost use mathlib.Core.Path.{_≡_};
 ghost use Prim.Native.Nat.{_+_, _^_, _≤_, _<_};
-ghost use Rattle.submission.specs.Format.{moduleCount, entryOffset, partsEnd};
-ghost use Rattle.submission.specs.Layout.{tableEntry, moduleFrom, layoutOf};
+ghost use Rattle.submission.specs.Format.{version, moduleCount, entryOffset};
+ghost use Rattle.submission.specs.Layout.{tableEntry, moduleFrom, ceilingTable, layoutOf};
 ghost use Rattle.submission.specs.Parse.{noLayout};
 ghost use Rattle.submission.specs.Format.{maxModules};
 use crate::Layout;
@@ -12,17 +12,18 @@ use crate::PREFIX;
 use crate::Part;
 use crate::TABLE_ENTRY;
 
-// The parts of a submission, and where the last one ends.
-pub(crate) struct Laid {
-    pub layout: Layout,
-    pub end: usize,
-}
-
-// What the table says of a module: the lengths of its data and its string, and two bytes that are to be zero.
+// What the table says of a module: the lengths of its data and its string, and its ceiling in MiB.
 pub(crate) struct TableEntry {
     pub bytes: u32,
     pub string: u16,
-    pub reserved: u16,
+    pub ceiling: u16,
+}
+
+// The version of the format.
+pub(crate) fn version(s: &[u8]) -> u16
+    ensures { λ r. ⌜ r ≡ version (now (s .entry)) ⌝ }
+{
+    number::read_u16(s, 3)
 }
 
 // How many modules the prefix announces.
@@ -49,14 +50,14 @@ pub(crate) fn read_entry(s: &[u8], i: usize) -> TableEntry
     TableEntry {
         bytes: number::read_u32(s, at),
         string: number::read_u16(s, at + 4),
-        reserved: number::read_u16(s, at + 6),
+        ceiling: number::read_u16(s, at + 6),
     }
 }
 
 // The parts of a submission with `count` modules.
-pub(crate) fn read_layout(s: &[u8], count: usize) -> Laid
+pub(crate) fn read_layout(s: &[u8], count: usize) -> Layout
     requires { ⌜ (count ≡ moduleCount (now s)) × (count ≤ maxModules) ⌝ }
-    ensures { λ r. ⌜ (r .layout ≡ layoutOf (now (s .entry))) × (r .end ≡ partsEnd (now (s .entry))) ⌝ }
+    ensures { λ r. ⌜ r ≡ layoutOf (now (s .entry)) ⌝ }
 {
     let image = Part {
         at: entry_offset(count),
@@ -76,15 +77,29 @@ pub(crate) fn read_layout(s: &[u8], count: usize) -> Laid
         at = m.string.at + m.string.len;
         i += 1;
     }
-    Laid {
-        layout: Layout {
-            image,
-            line,
-            modules,
-            count,
-        },
+    Layout {
+        image,
+        line,
+        modules,
+        ceilings: read_ceilings(s, count),
+        count,
         end: at,
     }
+}
+
+// The ceilings of `count` modules, zeros past the last.
+fn read_ceilings(s: &[u8], count: usize) -> [u16; MAX_MODULES]
+    requires { ⌜ count ≤ maxModules ⌝ }
+    ensures { λ r. ⌜ r ≡ ceilingTable (now (s .entry)) count ⌝ }
+{
+    let mut list = [0; MAX_MODULES];
+    let mut i = 0;
+    while i < count {
+        let entry = read_entry(s, i);
+        list[i] = entry.ceiling;
+        i += 1;
+    }
+    list
 }
 
 // The parts of a module with its data from `at` on.
@@ -115,6 +130,8 @@ pub(crate) fn no_layout() -> Layout
             data: none,
             string: none,
         }; MAX_MODULES],
+        ceilings: [0; MAX_MODULES],
         count: 0,
+        end: 0,
     }
 }

@@ -2,7 +2,7 @@
 ghost use mathlib.Core.Path.{_≡_};
 ghost use Prim.Native.Nat.{_≤_};
 ghost use Rattle.laws.specs.Tests.{allFrom};
-ghost use Rattle.submission.specs.Format.{moduleCount, partsEnd};
+ghost use Rattle.submission.specs.Format.{moduleCount};
 ghost use Rattle.submission.specs.Layout.{layoutOf};
 ghost use Rattle.submission.specs.Format.{maxModules};
 ghost use Rattle.submission.specs.Rules.{isSubmission, inLimits, entryHolds, stringHolds, rulesHold};
@@ -15,7 +15,7 @@ use crate::read;
 use crate::read::TableEntry;
 use crate::scan;
 
-// Whether the prefix is there, with the mark and version 1.
+// Whether the prefix is there, with the mark and version 1 or 2.
 pub(crate) fn is_submission(s: &[u8]) -> bool
     ensures { λ r. ⌜ r ≡ isSubmission (now (s .entry)) ⌝ }
 {
@@ -25,12 +25,16 @@ pub(crate) fn is_submission(s: &[u8]) -> bool
     if !scan::same_bytes(&s[..3], b"KSB") {
         return false;
     }
-    number::read_u16(s, 3) == 1
+    let version = read::version(s);
+    if version < 1 {
+        return false;
+    }
+    version <= 2
 }
 
-// Whether every other rule holds, for a submission with these parts, the last of which ends at `end`.
-pub(crate) fn rules_hold(s: &[u8], l: Layout, end: usize) -> bool
-    requires { ⌜ (l ≡ layoutOf (now s)) × (end ≡ partsEnd (now s)) × (moduleCount (now s) ≤ maxModules) ⌝ }
+// Whether every other rule holds, for a submission with these parts.
+pub(crate) fn rules_hold(s: &[u8], l: Layout) -> bool
+    requires { ⌜ (l ≡ layoutOf (now s)) × (moduleCount (now s) ≤ maxModules) ⌝ }
     ensures { λ r. ⌜ r ≡ rulesHold (now (s .entry)) ⌝ }
 {
     let line = l.line;
@@ -40,7 +44,7 @@ pub(crate) fn rules_hold(s: &[u8], l: Layout, end: usize) -> bool
     if !entries_hold(s, l.count) {
         return false;
     }
-    if end != s.len() {
+    if l.end != s.len() {
         return false;
     }
     if scan::has_zero(bytes_of(s, line)) {
@@ -54,9 +58,10 @@ fn entries_hold(s: &[u8], count: usize) -> bool
     requires { ⌜ count ≤ maxModules ⌝ }
     ensures { λ r. ⌜ r ≡ allFrom (entryHolds (now (s .entry))) 0 count ⌝ }
 {
+    let version = read::version(s);
     let mut i = 0;
     while i < count {
-        if !in_limits(read::read_entry(s, i)) {
+        if !in_limits(version, read::read_entry(s, i)) {
             return false;
         }
         i += 1;
@@ -64,9 +69,9 @@ fn entries_hold(s: &[u8], count: usize) -> bool
     true
 }
 
-// Whether a module has data, a string that is not too long, and zero where its entry is reserved.
-fn in_limits(entry: TableEntry) -> bool
-    ensures { λ r. ⌜ r ≡ inLimits entry ⌝ }
+// Whether a module has data, a string that is not too long, and no ceiling in version 1.
+fn in_limits(version: u16, entry: TableEntry) -> bool
+    ensures { λ r. ⌜ r ≡ inLimits version entry ⌝ }
 {
     if entry.bytes < 1 {
         return false;
@@ -74,7 +79,10 @@ fn in_limits(entry: TableEntry) -> bool
     if MAX_STRING < entry.string {
         return false;
     }
-    entry.reserved == 0
+    if version != 1 {
+        return true;
+    }
+    entry.ceiling == 0
 }
 
 // Whether no module's string holds a zero byte.

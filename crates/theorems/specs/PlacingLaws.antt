@@ -19,11 +19,10 @@ use Rattle.answer.specs.Answer.{isLoad, numberOf}
 use Rattle.answer.specs.ChainLaws.{numbers, distinct, appliesFor, applies-other, applies-front, chain-append, or-else-second, none-given}
 use Rattle.answer.specs.Chain.{checkOrder, placeIn, Before}
 use Rattle.answer.specs.declared.Answer.the-variants.{Load, NoRoomForModule, NoRoomForBlock}
-use Rattle.submission.specs.declared.Module.{Module}
 use Rattle.submission.specs.Rules.{submissionChecks}
 use Rattle.submission.specs.Layout.{layoutOf}
-use Rattle.submission.specs.Format.{moduleCount, dataLength}
-use Rattle.submission.specs.FormatLaws.{layout-count, module-at}
+use Rattle.submission.specs.Format.{moduleCount, dataLength, ceiling}
+use Rattle.submission.specs.FormatLaws.{layout-count, module-at, ceiling-at}
 use Rattle.command_line.specs.CommandLine.{operatorChecks}
 use Rattle.kernel.specs.Checks.{entryChecks}
 use Rattle.elf.specs.Checks.{elfChecks}
@@ -40,7 +39,7 @@ use Rattle.placement.specs.Free.{maxSpans}
 use Rattle.placement.specs.InOrder.{InOrder}
 use Rattle.placement.specs.Order.{itemNo}
 use Rattle.placement.specs.Placing.{Stands, Suits}
-use Rattle.items.specs.LoadItems.{extentsOf, itemsOf, moduleSpans}
+use Rattle.items.specs.LoadItems.{extentsOf, ceilingOf, moduleItem, blockItem, itemsOf, moduleSpans}
 use Rattle.items.specs.LoadItemsLaws.{item-at, item-module, item-block}
 use Rattle.decision.specs.Lent.{Lent}
 use Rattle.decision.specs.Read.{layoutIn, imageIn, kernelIn, boardIn, blockLengthIn}
@@ -95,14 +94,14 @@ module _ (done n : ℕ) where
       (lt-or-le done n)
 
 -- what suits and stands over one notion of open memory does so over another that says the same
-module _ {O P : ℕ → Type 0} (is : (y : ℕ) → O y ↔ P y) (spans : List Span) (c n b : ℕ) where
-  suits-same : (a : ℕ) → Suits O spans c n b a ↔ Suits P spans c n b a
+module _ {O P : ℕ → Type 0} (is : (y : ℕ) → O y ↔ P y) (spans : List Span) (c n b limit : ℕ) where
+  suits-same : (a : ℕ) → Suits O spans c n b limit a ↔ Suits P spans c n b limit a
   suits-same a = (
-    λ h. record { low = h .low; boundary = h .boundary; opened = λ y l u. is y .0 (h .opened y l u); apart = h .apart },
-    λ h. record { low = h .low; boundary = h .boundary; opened = λ y l u. is y .1 (h .opened y l u); apart = h .apart },
+    λ h. record { low = h .low; boundary = h .boundary; under = h .under; opened = λ y l u. is y .0 (h .opened y l u); apart = h .apart },
+    λ h. record { low = h .low; boundary = h .boundary; under = h .under; opened = λ y l u. is y .1 (h .opened y l u); apart = h .apart },
   )
 
-  stands-same : Stands O spans c n b → Stands P spans c n b
+  stands-same : Stands O spans c n b limit → Stands P spans c n b limit
   stands-same h =
       record {
         suits = suits-same (spanNo spans c .start .0) .0 (h .suits);
@@ -110,7 +109,7 @@ module _ {O P : ℕ → Type 0} (is : (y : ℕ) → O y ↔ P y) (spans : List S
         length = h .length;
       }
 
-  none-same : ((a : ℕ) → Suits O spans c n b a → ⊥) ↔ ((a : ℕ) → Suits P spans c n b a → ⊥)
+  none-same : ((a : ℕ) → Suits O spans c n b limit a → ⊥) ↔ ((a : ℕ) → Suits P spans c n b limit a → ⊥)
   none-same = (λ h a u. h a (suits-same a .1 u), λ h a u. h a (suits-same a .0 u))
 
 boundary-is : (pages : Bool) → boundaryOf pages ≡ cond pages 4096 4
@@ -188,37 +187,38 @@ module _ (x : Lent) (r : (k : ℕ) → Before k 15 → holdsIn x k ≡ false) wh
     order = load-in-order (boardIn x) (kernelIn x) (layoutIn x) (blockLengthIn x) (prepared x known)
 
     -- the items by the bytes of the submission
-    module-item : (i : ℕ) → i < moduleCount (x .submission) → itemNo (itemsOf (layoutIn x) (kernelIn x .pages) (blockLengthIn x)) i ≡ record { length = dataLength (x .submission) i; pages = kernelIn x .pages }
+    module-item : (i : ℕ) → i < moduleCount (x .submission) → itemNo (itemsOf (layoutIn x) (kernelIn x .pages) (blockLengthIn x)) i ≡ moduleItem (kernelIn x .pages) (dataLength (x .submission) i) (ceiling (x .submission) i)
     module-item i l =
         item-at (layoutIn x) (kernelIn x .pages) (blockLengthIn x) i (omega (arith, layout-count (x .submission)))
         ∙ item-module (layoutIn x) (kernelIn x .pages) (blockLengthIn x) i (omega (arith, layout-count (x .submission)))
-        ∙ ap (λ (m : Module). record { length = m .«data» .len; pages = kernelIn x .pages }) (module-at (x .submission) i l)
+        ∙ rw (module-at (x .submission) i l, ceiling-at (x .submission) i l) refl
 
-    block-item : itemNo (itemsOf (layoutIn x) (kernelIn x .pages) (blockLengthIn x)) (layoutIn x .count) ≡ record { length = blockSize x; pages = false }
+    block-item : itemNo (itemsOf (layoutIn x) (kernelIn x .pages) (blockLengthIn x)) (layoutIn x .count) ≡ blockItem (blockSize x)
     block-item =
         item-at (layoutIn x) (kernelIn x .pages) (blockLengthIn x) (layoutIn x .count) (omega arith)
         ∙ item-block (layoutIn x) (kernelIn x .pages) (blockLengthIn x)
-        ∙ ap (λ (n : ℕ). record { length = n; pages = false }) (block-size x known)
+        ∙ ap blockItem (block-size x known)
 
-    -- what holds of the item of an index holds of so many bytes on a boundary
-    of-item : (P : ℕ → ℕ → Type 0) (i n : ℕ) (pages : Bool) → itemNo (itemsOf (layoutIn x) (kernelIn x .pages) (blockLengthIn x)) i ≡ record { length = n; pages = pages }
-        → P (itemNo (itemsOf (layoutIn x) (kernelIn x .pages) (blockLengthIn x)) i .length) (boundaryOf (itemNo (itemsOf (layoutIn x) (kernelIn x .pages) (blockLengthIn x)) i .pages)) → P n (cond pages 4096 4)
-    of-item P i n pages e p = subst (P n) (boundary-is pages) (subst (λ (q : Item). P (q .length) (boundaryOf (q .pages))) e p)
+    -- what holds of the item of an index holds of its length, boundary and ceiling
+    of-item : (P : ℕ → ℕ → ℕ → Type 0) (i : ℕ) (q : Item) → itemNo (itemsOf (layoutIn x) (kernelIn x .pages) (blockLengthIn x)) i ≡ q
+        → P (itemNo (itemsOf (layoutIn x) (kernelIn x .pages) (blockLengthIn x)) i .length) (boundaryOf (itemNo (itemsOf (layoutIn x) (kernelIn x .pages) (blockLengthIn x)) i .pages)) (itemNo (itemsOf (layoutIn x) (kernelIn x .pages) (blockLengthIn x)) i .ceiling .0)
+        → P (q .length) (cond (q .pages) 4096 4) (q .ceiling .0)
+    of-item P i q e p = subst (λ (b : ℕ). P (q .length) b (q .ceiling .0)) (boundary-is (q .pages)) (subst (λ (r : Item). P (r .length) (boundaryOf (r .pages)) (r .ceiling .0)) e p)
 
-    stood : (i n : ℕ) (pages : Bool) → itemNo (itemsOf (layoutIn x) (kernelIn x .pages) (blockLengthIn x)) i ≡ record { length = n; pages = pages } → i < placedIn x .done
-        → Stands (Open x) (placedIn x .spans .list) (kernelIn x .count + i) n (cond pages 4096 4)
+    stood : (i : ℕ) (q : Item) → itemNo (itemsOf (layoutIn x) (kernelIn x .pages) (blockLengthIn x)) i ≡ q → i < placedIn x .done
+        → Stands (Open x) (placedIn x .spans .list) (kernelIn x .count + i) (q .length) (cond (q .pages) 4096 4) (q .ceiling .0)
     unfolding extentsOf
-    stood i n pages e l =
-        stands-same (open-in x) (placedIn x .spans .list) (kernelIn x .count + i) n (cond pages 4096 4)
-        (of-item (λ m b. Stands (λ y. isOpen (boardIn x) y ≡ true) (placedIn x .spans .list) (kernelIn x .count + i) m b) i n pages e (order .stands i l))
+    stood i q e l =
+        stands-same (open-in x) (placedIn x .spans .list) (kernelIn x .count + i) (q .length) (cond (q .pages) 4096 4) (q .ceiling .0)
+        (of-item (λ m b h. Stands (λ y. isOpen (boardIn x) y ≡ true) (placedIn x .spans .list) (kernelIn x .count + i) m b h) i q e (order .stands i l))
 
-    ended : (i n : ℕ) (pages : Bool) → itemNo (itemsOf (layoutIn x) (kernelIn x .pages) (blockLengthIn x)) i ≡ record { length = n; pages = pages } → i ≤ layoutIn x .count → i ≤ placedIn x .done
-        → (placedIn x .done ≡ i) ↔ ((a : ℕ) → Suits (Open x) (placedIn x .spans .list) (kernelIn x .count + i) n (cond pages 4096 4) a → ⊥)
+    ended : (i : ℕ) (q : Item) → itemNo (itemsOf (layoutIn x) (kernelIn x .pages) (blockLengthIn x)) i ≡ q → i ≤ layoutIn x .count → i ≤ placedIn x .done
+        → (placedIn x .done ≡ i) ↔ ((a : ℕ) → Suits (Open x) (placedIn x .spans .list) (kernelIn x .count + i) (q .length) (cond (q .pages) 4096 4) (q .ceiling .0) a → ⊥)
     unfolding extentsOf itemsOf
-    ended i n pages e l m =
-        let s = none-same (open-in x) (placedIn x .spans .list) (kernelIn x .count + i) n (cond pages 4096 4) in
+    ended i q e l m =
+        let s = none-same (open-in x) (placedIn x .spans .list) (kernelIn x .count + i) (q .length) (cond (q .pages) 4096 4) (q .ceiling .0) in
         let o =
-        of-item (λ k b. (placedIn x .done ≡ i) ↔ ((a : ℕ) → Suits (λ y. isOpen (boardIn x) y ≡ true) (placedIn x .spans .list) (kernelIn x .count + i) k b a → ⊥)) i n pages e (order .ends i (omega arith) m) in
+        of-item (λ k b h. (placedIn x .done ≡ i) ↔ ((a : ℕ) → Suits (λ y. isOpen (boardIn x) y ≡ true) (placedIn x .spans .list) (kernelIn x .count + i) k b h a → ⊥)) i q e (order .ends i (omega arith) m) in
         (λ d. s .0 (o .0 d), λ u. o .1 (s .1 u))
 
     -- the plan of a load
@@ -245,21 +245,21 @@ module _ (x : Lent) (r : (k : ℕ) → Before k 15 → holdsIn x k ≡ false) wh
         (all-done x h ∙ omega (arith, layout-count (x .submission)), rw (load-plan x e) (planned h))
 
     places : Placing x (kernelIn x) (decisionOf x)
-    unfolding extentsOf layoutOf
+    unfolding extentsOf ceilingOf layoutOf
     places =
         record {
           spans = placedIn x .spans .list;
           done = placedIn x .done;
           kernel = λ j l. order .kept j l ∙ table-at (extentNo (kernelIn x)) maxSpans noSpan (kernelIn x .count) j l;
-          modules = λ i l m. stood i (dataLength (x .submission) i) (kernelIn x .pages) (module-item i l) m;
-          block = λ l. stood (layoutIn x .count) (blockSize x) false block-item l;
+          modules = λ i l m. stood i _ (module-item i l) m;
+          block = λ l. stood (layoutIn x .count) _ block-item l;
           no-room = λ i l m.
-              let e = ended i (dataLength (x .submission) i) (kernelIn x .pages) (module-item i l) (omega arith) m in (
+              let e = ended i _ (module-item i l) (omega arith) m in (
                 λ z. e .0 (is-module _ _ i (sym room-answer ∙ z)),
                 λ s. let d = e .1 s in room-answer ∙ room-module _ _ (omega arith) ∙ ap NoRoomForModule d,
               );
           no-room-block = λ m.
-              let e = ended (layoutIn x .count) (blockSize x) false block-item (omega arith) m in (
+              let e = ended (layoutIn x .count) _ block-item (omega arith) m in (
                 λ z. e .0 (is-block _ _ (sym room-answer ∙ z)),
                 λ s. room-answer ∙ room-block _ _ (e .1 s),
               );

@@ -17,6 +17,7 @@ use mathlib.Core.Bool.{Bool, true, false, cond}
 use mathlib.Core.List.{List, [], _∷_, _++_}
 use mathlib.Core.Logic.{_↔_, _⊎_}
 use Prim.Native.Nat.{ℕ, _+_, _*_, _-_, _/_, _%_, _^_, _≤_, _<_, min}
+use lib.Dec.{eqb}
 use lib.ListN.{length, getD, take, drop}
 use Rattle.laws.specs.HowMany.{HowMany}
 use Rattle.number.specs.Number.{numberAt}
@@ -25,7 +26,7 @@ use Rattle.address.specs.declared.Span.{Span}
 use Rattle.answer.specs.Answer.{numberOf, itemOf}
 use Rattle.answer.specs.Chain.{checkOrder, placeIn, Before}
 use Rattle.answer.specs.declared.Answer.the-variants.{NoRoomForModule, NoRoomForBlock}
-use Rattle.submission.specs.Format.{moduleCount, dataLength, stringLength, dataStart, imageBytes, stringBytes}
+use Rattle.submission.specs.Format.{moduleCount, dataLength, stringLength, ceiling, dataStart, imageBytes, stringBytes}
 use Rattle.submission.specs.GoodSubmission.{NoZero, Marked, GoodSubmission}
 use Rattle.command_line.specs.LineInForce.{lineInForce}
 use Rattle.header.specs.HeaderAt.{HeaderAt, FalseHeaderAt}
@@ -130,6 +131,10 @@ stringPlace x i = textsOffset x + textSize (length (lineOf x)) + stringsSize (x 
 abbrev pub blockSize : Lent → ℕ
 blockSize x = stringPlace x (moduleCount (x .submission))
 
+-- the ceiling of a module as an address: so many MiB, or, where it has none, 2^32, since no address from there on is open
+abbrev pub moduleCeiling : Lent → ℕ → ℕ
+moduleCeiling x i = cond (eqb (ceiling (x .submission) i) 0) (2 ^ 32) (ceiling (x .submission) i * 2 ^ 20)
+
 -- no two of the kernel's extents, the modules and the block, in this order, share an address
 abbrev pub Apart : List Span → ℕ → Type 0
 Apart spans n = (i j : ℕ) → i < j → j < n → (a : ℕ) → Holds (spanNo spans i) a → Holds (spanNo spans j) a → ⊥
@@ -154,12 +159,13 @@ pub record Placing (x : Lent) (k : Kernel) (d : Decision) : Type 0 where
   pub done : ℕ
   -- the kernel's extents come first
   pub kernel : (j : ℕ) → j < k .count → spanNo spans j ≡ extentNo k j
-  -- each module stands at its lowest place, on a boundary of 4,096 where pages are asked for, else of 4, and so does the block
-  pub modules : (i : ℕ) → i < moduleCount (x .submission) → i < done → Stands (Open x) spans (k .count + i) (dataLength (x .submission) i) (cond (k .pages) 4096 4)
-  pub block : moduleCount (x .submission) < done → Stands (Open x) spans (k .count + moduleCount (x .submission)) (blockSize x) 4
+  -- each module stands at its lowest place, on a boundary of 4,096 where pages are asked for, else of 4, and under its ceiling;
+  -- the block at its lowest place on a boundary of 4, without a ceiling
+  pub modules : (i : ℕ) → i < moduleCount (x .submission) → i < done → Stands (Open x) spans (k .count + i) (dataLength (x .submission) i) (cond (k .pages) 4096 4) (moduleCeiling x i)
+  pub block : moduleCount (x .submission) < done → Stands (Open x) spans (k .count + moduleCount (x .submission)) (blockSize x) 4 (2 ^ 32)
   -- with those before it placed, no room is answered exactly where no address suits
-  pub no-room : (i : ℕ) → i < moduleCount (x .submission) → i ≤ done → (d .answer ≡ NoRoomForModule i) ↔ ((a : ℕ) → Suits (Open x) spans (k .count + i) (dataLength (x .submission) i) (cond (k .pages) 4096 4) a → ⊥)
-  pub no-room-block : moduleCount (x .submission) ≤ done → (d .answer ≡ NoRoomForBlock) ↔ ((a : ℕ) → Suits (Open x) spans (k .count + moduleCount (x .submission)) (blockSize x) 4 a → ⊥)
+  pub no-room : (i : ℕ) → i < moduleCount (x .submission) → i ≤ done → (d .answer ≡ NoRoomForModule i) ↔ ((a : ℕ) → Suits (Open x) spans (k .count + i) (dataLength (x .submission) i) (cond (k .pages) 4096 4) (moduleCeiling x i) a → ⊥)
+  pub no-room-block : moduleCount (x .submission) ≤ done → (d .answer ≡ NoRoomForBlock) ↔ ((a : ℕ) → Suits (Open x) spans (k .count + moduleCount (x .submission)) (blockSize x) 4 (2 ^ 32) a → ⊥)
   -- placing ended at the one that the answer names
   pub at-module : (i : ℕ) → d .answer ≡ NoRoomForModule i → (done ≡ i) × (i < moduleCount (x .submission))
   pub at-block : d .answer ≡ NoRoomForBlock → done ≡ moduleCount (x .submission)

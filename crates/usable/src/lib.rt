@@ -14,7 +14,7 @@ pub mod sizes;
 const RAM: u64 = 1;
 
 // Usable addresses are below this.
-pub(crate) const ADDRESS_SPACE: u64 = 0x100000000;
+pub const ADDRESS_SPACE: u64 = 0x100000000;
 
 // Whether the pair covers the address.
 fn pair_covers(pair: Pair, a: PhysAddr) -> bool

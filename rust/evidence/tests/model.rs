@@ -2,7 +2,7 @@
 
 use evidence::input::bench_cases::{b1, e1};
 use evidence::input::case::Case;
-use evidence::input::draft::{overlay, submission, Header, Module};
+use evidence::input::draft::{overlay, submission, Header, Module, Version};
 use evidence::input::elf::{Elf, ProgramHeader};
 use evidence::input::pair::{map_bytes, Pair};
 use evidence::input::review_board;
@@ -62,7 +62,7 @@ fn with_word(at: usize, value: u32) -> Case {
 fn cut_image(length: usize) -> Case {
     let mut image = e1()[B1_IMAGE..E1_IMAGE_END].to_vec();
     overlay(&mut image, 4, &Header::default().bytes()[..12]);
-    review_board::case(&submission(&image[..length], b"", &[]))
+    review_board::case(&submission(Version::One, &image[..length], b"", &[]))
 }
 
 /// An image that ends with a table of a segment and empty program headers, bytes cut off of it.
@@ -73,22 +73,25 @@ fn with_table(count: usize, cut: usize) -> Case {
     let header = &Header::default().bytes()[..12];
     let mut image = [&elf.header.bytes(), header, &elf.table_bytes()].concat();
     image.truncate(image.len() - cut);
-    review_board::case(&submission(&image, b"", &[]))
+    review_board::case(&submission(Version::One, &image, b"", &[]))
 }
 
 /// A submission without an image.
 fn parts(line: &[u8], modules: &[(&[u8], &[u8])]) -> Case {
-    let module =
-        |&(data, string): &(&[u8], &[u8])| Module { data: data.to_vec(), string: string.to_vec() };
+    let module = |&(data, string): &(&[u8], &[u8])| Module {
+        data: data.to_vec(),
+        string: string.to_vec(),
+        ceiling: 0,
+    };
     let modules: Vec<Module> = modules.iter().map(module).collect();
-    review_board::case(&submission(b"", line, &modules))
+    review_board::case(&submission(Version::One, b"", line, &modules))
 }
 
 /// An image of zeros, its header at an offset.
 fn image(length: usize, header: Header) -> Case {
     let mut image = vec![0; length];
     overlay(&mut image, header.offset, &header.bytes());
-    review_board::case(&submission(&image, b"", &[]))
+    review_board::case(&submission(Version::One, &image, b"", &[]))
 }
 
 fn on_map(map: Vec<u8>) -> Case {
@@ -100,14 +103,16 @@ fn each_rule_of_the_submission_alone() {
     let cut = |length: usize| review_board::case(&b1()[..length]);
     (0..12).for_each(|length| alone(cut(length), 1, "under 12 bytes"));
     (0..3).for_each(|at| alone(with(at, b"x"), 1, "another mark"));
-    (3..5).for_each(|at| alone(with(at, &[2]), 1, "another version"));
+    for version in [[0, 0], [3, 0], [1, 1], [2, 1]] {
+        alone(with(3, &version), 1, "another version");
+    }
     let one: (&[u8], &[u8]) = (b"x", b"");
     let long = [b'x'; 256];
     alone(parts(b"", &[one; 17]), 2, "over 16 modules");
     alone(parts(&long, &[]), 2, "a command line over 255 bytes");
     alone(parts(b"", &[one, (b"", b"a")]), 2, "a module without data");
     alone(parts(b"", &[(b"x", &long[..128])]), 2, "a module string over 127 bytes");
-    (18..20).for_each(|at| alone(with(at, &[1]), 2, "a reserved byte that is set"));
+    (18..20).for_each(|at| alone(with(at, &[1]), 2, "a ceiling in version 1"));
     let longer = review_board::case(&[&b1()[..], b"x"].concat());
     alone(longer, 2, "parts that end before the submission");
     (12..66).for_each(|length| alone(cut(length), 2, "parts that end past the submission"));
@@ -228,7 +233,7 @@ fn passes_18(length: usize, offset: usize, flags: u32, e_phoff: usize) -> bool {
     overlay(&mut image, E_PHOFF, &(e_phoff as u32).to_le_bytes());
     overlay(&mut image, E_PHENTSIZE, &[32, 0, 1, 0]);
     overlay(&mut image, offset, &Header { flags, ..Header::default() }.bytes()[..12]);
-    let case = review_board::case(&submission(&image, b"", &[]));
+    let case = review_board::case(&submission(Version::One, &image, b"", &[]));
     ![6, 7, 25, 8, 18].contains(&number(&case))
 }
 

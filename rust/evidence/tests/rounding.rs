@@ -26,7 +26,7 @@ fn kernel_up_to(end: u64, flags: u32) -> Case {
     let draft = Draft {
         filler: vec![0; FULL_HEADER],
         header,
-        modules: vec![Module { data: vec![0x5A], string: Vec::new() }],
+        modules: vec![Module { data: vec![0x5A], ..Module::default() }],
         pairs: vec![Pair::new(FLOOR, ROOM, RAM)],
         first,
         window: ROOM as usize,

@@ -9,8 +9,10 @@ use evidence::input::pair::{map_bytes, Pair};
 use evidence::input::{generate, review_board};
 use evidence::loaders::{model, run, second, Loader, Outcome};
 use evidence::rules::bytes::{put_u32, u32_at};
-use evidence::rules::limits::{FLOOR, RAM, SEARCH_LIMIT};
-use evidence::rules::offsets::structure;
+use evidence::rules::limits::{
+    FLOOR, PREFIX, RAM, SEARCH_LIMIT, TABLE_ENTRY, VERSION_1, VERSION_2,
+};
+use evidence::rules::offsets::{structure, submission, table_entry};
 use evidence::rules::words;
 use std::ops::Range;
 use viertompu::{read_words, Plan, Refusal, Segment, Words};
@@ -167,6 +169,27 @@ fn counts_in_loads_alone(case: &Case, window: &mut [u8]) -> Words {
     words
 }
 
+/// Loads as if no module had a ceiling.
+fn ignores_ceilings(case: &Case, window: &mut [u8]) -> Words {
+    let mut free = case.clone();
+    if let Ok(reading) = model::read(case) {
+        for index in 0..reading.submission.modules.len() {
+            let at = PREFIX + TABLE_ENTRY * index + table_entry::CEILING;
+            free.submission[at..][..2].fill(0);
+        }
+    }
+    second::load(&free, window)
+}
+
+/// Reads version 1 as version 2, ceilings and all.
+fn obeys_ceilings_in_version_1(case: &Case, window: &mut [u8]) -> Words {
+    let mut later = case.clone();
+    if let Some(version) = later.submission.get_mut(submission::VERSION) {
+        *version = if *version == VERSION_1 as u8 { VERSION_2 as u8 } else { *version };
+    }
+    second::load(&later, window)
+}
+
 /// Does a judge find fault with what the loader leaves behind in some case?
 fn caught(loader: Loader, is_wrong: fn(&Case, &Outcome) -> bool) -> bool {
     let mut cases = (0..CASES).map(|index| generate::case(1, index));
@@ -189,7 +212,7 @@ fn by_address(case: &Case, outcome: &Outcome) -> bool {
 }
 
 /// Their loads and refusals show that they are wrong.
-const WRONG_BY_THEMSELVES: [(&str, Loader); 12] = [
+const WRONG_BY_THEMSELVES: [(&str, Loader); 13] = [
     ("always_the_same_plan", always_the_same_plan),
     ("never_writes", never_writes),
     ("copies_the_first_module_alone", copies_the_first_module_alone),
@@ -202,14 +225,16 @@ const WRONG_BY_THEMSELVES: [(&str, Loader); 12] = [
     ("gives_eleven", gives_eleven),
     ("counts_the_header_in", counts_the_header_in),
     ("counts_on_behind_the_header", counts_on_behind_the_header),
+    ("ignores_ceilings", ignores_ceilings),
 ];
 
 /// Only another reading of the rules shows that they are wrong.
-const WRONG_BESIDE_ANOTHER: [(&str, Loader); 4] = [
+const WRONG_BESIDE_ANOTHER: [(&str, Loader); 5] = [
     ("refuses_everything", refuses_everything),
     ("invents_mem_upper", invents_mem_upper),
     ("tells_no_mem_lower", tells_no_mem_lower),
     ("counts_in_loads_alone", counts_in_loads_alone),
+    ("obeys_ceilings_in_version_1", obeys_ceilings_in_version_1),
 ];
 
 #[test]

@@ -55,16 +55,16 @@ refused-requires-3 c κs = search needs
 returns-3 : tie.Need-returns-3
 returns-3 c =
     let judged = c .before .before in
-    let first = judged .before .before .before .before .before in
+    let first = judged .before .before .before .before in
     let s = first .before .before .before .args .s .now in
     c .refused3 .ensures ∙ bad-parsed s (marked first) (sym (judged .rules-hold .ensures) ∙ not-true _ (c .before .if3 .taken))
 
 returns-4 : tie.Need-returns-4
 returns-4 c =
     let judged = c .before in
-    let first = judged .before .before .before .before .before in
+    let first = judged .before .before .before .before in
     let s = first .before .before .before .args .s .now in
-    ap loaded (judged .before .before .read-layout .ensures .0) ∙ good-parsed s (marked first) (sym (judged .rules-hold .ensures) ∙ not-false _ (c .if3 .left))
+    ap loaded (judged .before .read-layout .ensures) ∙ good-parsed s (marked first) (sym (judged .rules-hold .ensures) ∙ not-false _ (c .if3 .left))
 
 pub parse-spec : {M : Type 1} → statement M
 parse-spec =

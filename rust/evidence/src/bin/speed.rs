@@ -8,14 +8,13 @@ use evidence::input::draft::{pattern, Draft, Header, Module};
 use evidence::input::pair::Pair;
 use evidence::loaders::{model, second, PROVED};
 use evidence::rules::limits::{
-    ADDRESS_FIELDS, FLOOR, FULL_HEADER, LOW_MEMORY, MAX_MODULES, MAX_PAIRS, PAGE_ALIGNED, RAM,
+    ADDRESS_FIELDS, FLOOR, FULL_HEADER, LOW_MEMORY, MAX_MODULES, MAX_PAIRS, MIB, PAGE_ALIGNED, RAM,
     SEARCH_LIMIT,
 };
 use std::hint::black_box;
 use std::time::{Duration, Instant};
 use viertompu::{read_words, Plan};
 
-const MIB: usize = 1 << 20;
 const HEADER_OFFSET: usize = SEARCH_LIMIT - FULL_HEADER;
 const MODULE: usize = 64 * 1024;
 const BSS: u32 = 64 * 1024;
@@ -47,9 +46,10 @@ fn case() -> Case {
     let module = |index: usize| Module {
         data: pattern(index, MODULE),
         string: format!("module {index}").into_bytes(),
+        ceiling: 0,
     };
     let draft = Draft {
-        filler: pattern(0, 4 * MIB),
+        filler: pattern(0, 4 * MIB as usize),
         header: Header {
             offset: HEADER_OFFSET,
             flags: ADDRESS_FIELDS | PAGE_ALIGNED,
@@ -63,7 +63,7 @@ fn case() -> Case {
         line: b"speed".to_vec(),
         pairs: map(),
         first: load_addr,
-        window: 8 * MIB,
+        window: 8 * MIB as usize,
         ..Draft::default()
     };
     draft.case("speed".to_string())
@@ -72,7 +72,7 @@ fn case() -> Case {
 /// Low memory, then the window's memory in pairs that abut.
 fn map() -> Vec<Pair> {
     let count = MAX_PAIRS as u64 - 1;
-    let length = (8 * MIB as u64).div_ceil(count);
+    let length = (8 * MIB).div_ceil(count);
     let part = |index: u64| Pair::new(FLOOR + index * length, length, RAM);
     let mut pairs = vec![Pair::new(0, LOW_MEMORY, RAM)];
     pairs.extend((0..count).map(part));

@@ -191,13 +191,16 @@ impl<'a> Load<'a> {
         Ok(Kernel { parts: elf.segments().map(part).collect(), entry: elf.e_entry })
     }
 
-    /// Each module's data stands whole at a boundary from 1 MiB up.
+    /// Each module's data stands whole at a boundary from 1 MiB up, and ends at or below its
+    /// ceiling.
     fn modules(&self) -> Result<(), String> {
         let flags = self.header_word(header::FLAGS)?;
         let boundary = if flags & PAGE_ALIGNED != 0 { PAGE } else { WORD };
         for (module, span) in self.placed_modules() {
             let start = u64::from(span.start);
             demand(start >= FLOOR && start % boundary == 0, "module's boundary")?;
+            let under = |ceiling: u64| u64::from(span.end) <= ceiling;
+            demand(module.ceiling.is_none_or(under), "module's ceiling")?;
             demand(self.memory.span(*span)? == module.data, "module's data")?;
         }
         let unused = &self.plan.modules[self.reading.submission.modules.len()..];

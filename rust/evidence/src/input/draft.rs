@@ -5,7 +5,7 @@ use crate::input::case::Case;
 use crate::input::elf::Elf;
 use crate::input::pair::{map_bytes, Pair};
 use crate::rules::limits::{
-    ADDRESS_FIELDS, FULL_HEADER, HEADER_MAGIC, MARK, SHORT_HEADER, VERSION,
+    ADDRESS_FIELDS, FULL_HEADER, HEADER_MAGIC, MARK, SHORT_HEADER, VERSION_1, VERSION_2,
 };
 
 /// A header's place in the image and its fields.
@@ -60,23 +60,42 @@ pub fn magics(length: usize) -> Vec<u8> {
 pub struct Module {
     pub data: Vec<u8>,
     pub string: Vec<u8>,
+    /// in MiB; 0 is none
+    pub ceiling: u16,
+}
+
+/// The version of a submission's format.
+#[derive(Clone, Copy, Debug, Default, PartialEq, Eq)]
+pub enum Version {
+    #[default]
+    One,
+    Two,
+}
+
+impl Version {
+    fn number(self) -> u16 {
+        match self {
+            Version::One => VERSION_1,
+            Version::Two => VERSION_2,
+        }
+    }
 }
 
 /// A submission's first five bytes.
-pub fn mark_and_version() -> Vec<u8> {
-    [MARK, &VERSION.to_le_bytes()].concat()
+pub fn mark_and_version(version: Version) -> Vec<u8> {
+    [MARK, &version.number().to_le_bytes()].concat()
 }
 
 /// A submission's bytes.
-pub fn submission(image: &[u8], line: &[u8], modules: &[Module]) -> Vec<u8> {
-    let mut bytes = mark_and_version();
+pub fn submission(version: Version, image: &[u8], line: &[u8], modules: &[Module]) -> Vec<u8> {
+    let mut bytes = mark_and_version(version);
     bytes.push(modules.len() as u8);
     bytes.extend_from_slice(&(image.len() as u32).to_le_bytes());
     bytes.extend_from_slice(&(line.len() as u16).to_le_bytes());
     for module in modules {
         bytes.extend_from_slice(&(module.data.len() as u32).to_le_bytes());
         bytes.extend_from_slice(&(module.string.len() as u16).to_le_bytes());
-        bytes.extend_from_slice(&[0, 0]);
+        bytes.extend_from_slice(&module.ceiling.to_le_bytes());
     }
     bytes.extend_from_slice(image);
     bytes.extend_from_slice(line);
@@ -90,6 +109,7 @@ pub fn submission(image: &[u8], line: &[u8], modules: &[Module]) -> Vec<u8> {
 /// A submission, its lines and its board.
 #[derive(Clone, Debug, Default)]
 pub struct Draft {
+    pub version: Version,
     /// the image's bytes where no header stands
     pub filler: Vec<u8>,
     pub header: Header,
@@ -133,7 +153,7 @@ impl Draft {
     pub fn case(&self, name: String) -> Case {
         Case {
             name,
-            submission: submission(&self.image(), &self.line, &self.modules),
+            submission: submission(self.version, &self.image(), &self.line, &self.modules),
             operator: self.operator.clone(),
             map: map_bytes(&self.pairs),
             window: pattern(self.pattern, self.window),

@@ -32,8 +32,12 @@ pub const LOW_MEMORY: u64 = 0x9_FC00;
 
 /// A submission's first bytes.
 pub const MARK: &[u8] = b"KSB";
-/// The version of the submission's format.
-pub const VERSION: u16 = 1;
+/// The version of the submission's format whose modules have no ceiling.
+pub const VERSION_1: u16 = 1;
+/// The version whose modules may have one.
+pub const VERSION_2: u16 = 2;
+/// How many addresses a MiB has, the unit of ceilings.
+pub const MIB: u64 = 1 << 20;
 /// The bytes before a submission's module table.
 pub const PREFIX: usize = 12;
 /// The bytes of one entry of a submission's module table.

@@ -12,4 +12,6 @@ pub use words::{mend_words, numbers, words, Decision, MendAnswer};
 pub struct Item {
     pub length: u64,
     pub boundary: u64,
+    /// the address at or below which it ends, if it has a ceiling
+    pub ceiling: Option<u64>,
 }

@@ -13,7 +13,7 @@ pub mod submission {
 pub mod table_entry {
     pub const DATA_LENGTH: usize = 0;
     pub const STRING_LENGTH: usize = 4;
-    pub const RESERVED: usize = 6;
+    pub const CEILING: usize = 6;
 }
 
 /// Offsets in a header.

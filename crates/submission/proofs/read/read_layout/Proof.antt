@@ -1,14 +1,14 @@
 -- `submission::read::read_layout` meets its contract. The loop's invariant: the modules passed stand in the table, and
 -- `at` is where the next one's data begins; seventeen lengths of 32 bits do not come near 2^64.
 -- Assumes nothing.
-use mathlib.Core.Path.{_≡_, refl, ap, _∙_}
+use mathlib.Core.Path.{_≡_, refl, ap}
 use mathlib.Core.List.{List}
 use Prim.Native.Nat.{ℕ, _+_, _*_, _-_, _^_, _≤_}
 use native.Mathlib.Omega.{arith}
 use borrow.Author.Needs.{needs}
 use Rattle.laws.specs.Table.{listed}
 use Rattle.submission.specs.Format.{moduleCount, imageLength, lineLength, entryOffset, dataStart}
-use Rattle.submission.specs.Layout.{moduleTable, layoutOf}
+use Rattle.submission.specs.Layout.{moduleTable, ceilingTable, layoutOf}
 use Rattle.submission.specs.Parse.{noLayout}
 use Rattle.submission.specs.declared.Module.{Module}
 use Rattle.submission.specs.declared.Layout.{Layout}
@@ -17,10 +17,10 @@ use Rattle.submission.proofs.read.read_layout.Statement.{statement}
 use Rattle.submission.proofs.read.read_layout.Tie as tie
 
 -- what was read is the layout
-laid : (s : List ℕ) (n start image line i : ℕ) (ms : List Module) → n ≡ moduleCount s → start ≡ entryOffset n → image ≡ imageLength s → line ≡ lineLength s → i ≡ moduleCount s → ms ≡ moduleTable s i
-    → record { image = record { at = start; len = image }; line = record { at = start + image; len = line }; modules = ms; count = n } ≡ layoutOf s
+laid : (s : List ℕ) (n start image line i : ℕ) (ms : List Module) (cs : List ℕ) (at : ℕ) → n ≡ moduleCount s → start ≡ entryOffset n → image ≡ imageLength s → line ≡ lineLength s → i ≡ moduleCount s → ms ≡ moduleTable s i → cs ≡ ceilingTable s n → at ≡ dataStart s i
+    → record { image = record { at = start; len = image }; line = record { at = start + image; len = line }; modules = ms; ceilings = cs; count = n; end = at } ≡ layoutOf s
 unfolding layoutOf
-laid s n start image line i ms c b h l e m = rw (m, e, b, c, h, l) refl
+laid s n start image line i ms cs at c b h l e m q d = rw (m, q, d, e, b, c, h, l) refl
 
 abbrev Inv-loop : tie.InvT-loop
 Inv-loop s count image line modules₀ at₀ i₀ modules at i =
@@ -93,16 +93,19 @@ loop-again c =
       search needs,
     )
 
+read-ceilings-requires : tie.Need-read-ceilings-requires Inv-loop μ-loop
+read-ceilings-requires c κs = search needs
+
 returns : tie.Need-returns Inv-loop μ-loop
 returns c =
-    let at-loop = c .before in
+    let at-loop = c .before .before in
     let at-u16 = at-loop .before .before .before .before in
     let at-u32 = at-u16 .before .before in
     let at-start = at-u32 .before .before .before in
     let s = at-start .args .s .now in
     let turn = at-loop .loop in
     let e : turn .i ≡ moduleCount s = omega (arith, at-start .pre .0) in
-    (laid s (at-start .args .count) (at-u32 .before .entry-offset .result) (at-u32 .read-u32 .result) (at-u16 .read-u16 .result) (turn .i) (turn .modules) (at-start .pre .0) (at-u32 .before .entry-offset .ensures) (at-u32 .read-u32 .ensures) (at-u16 .read-u16 .ensures) e (turn .inv .1), turn .inv .2 ∙ ap (dataStart s) e)
+    laid s (at-start .args .count) (at-u32 .before .entry-offset .result) (at-u32 .read-u32 .result) (at-u16 .read-u16 .result) (turn .i) (turn .modules) (c .read-ceilings .result) (turn .at) (at-start .pre .0) (at-u32 .before .entry-offset .ensures) (at-u32 .read-u32 .ensures) (at-u16 .read-u16 .ensures) e (turn .inv .1) (c .read-ceilings .ensures) (turn .inv .2)
 
 pub read-layout-spec : {M : Type 1} → statement M
 read-layout-spec =
@@ -127,4 +130,5 @@ read-layout-spec =
     add-i
     loop-less
     loop-again
+    read-ceilings-requires
     returns)

@@ -1,9 +1,9 @@
 -- `submission::rules::in_limits` meets its contract: its tests are those of the definition, in its order.
 -- Assumes nothing.
-use mathlib.Core.Path.{sym}
+use mathlib.Core.Path.{_≡_, sym}
 use Prim.Native.Nat.{_≤_, _<_}
 use native.Mathlib.Omega.{arith}
-use borrow.Author.Tests.{le-leb}
+use borrow.Author.Tests.{le-leb, eq-eqb}
 use Rattle.laws.specs.CheckLaws.{chain}
 use Rattle.submission.specs.Rules.{maxString, inLimits}
 use Rattle.submission.proofs.rules.in_limits.Statement.{statement}
@@ -26,10 +26,20 @@ returns-2 c =
 returns-3 : tie.Need-returns-3
 unfolding inLimits
 returns-3 c =
-    let e = c .before .before .before .before .before .args .entry in
-    let h : 1 ≤ e .bytes = omega arith in
-    let k : e .string ≤ maxString = omega arith in
-    simp (le-leb 1 (e .bytes) h, le-leb (e .string) maxString k)
+    let a = c .before .before .before .before .before .args in
+    let h : 1 ≤ a .entry .bytes = omega arith in
+    let k : a .entry .string ≤ maxString = omega arith in
+    let v : a .version ≡ 1 → ⊥ = λ z. omega arith in
+    sym (search chain depth 20)
+
+returns-4 : tie.Need-returns-4
+unfolding inLimits
+returns-4 c =
+    let a = c .before .before .before .before .before .before .args in
+    let h : 1 ≤ a .entry .bytes = omega arith in
+    let k : a .entry .string ≤ maxString = omega arith in
+    let v : a .version ≡ 1 = omega arith in
+    simp (le-leb 1 (a .entry .bytes) h, le-leb (a .entry .string) maxString k, eq-eqb (a .version) 1 v)
 
 pub in-limits-spec : {M : Type 1} → statement M
-in-limits-spec = tie.close (tie.spec returns returns-2 returns-3)
+in-limits-spec = tie.close (tie.spec returns returns-2 returns-3 returns-4)

@@ -7,7 +7,7 @@ use Prim.Native.Nat.{ℕ, _≤_, _<_}
 use native.Mathlib.Omega.{arith}
 use borrow.Author.Tests.{le-leb, lt-leb, not-true, not-false}
 use borrow.Author.Needs.{needs}
-use lib.Dec.{eqb}
+use lib.Dec.{leb}
 use lib.ListN.{length, take}
 use lib.Seq.{length-take-le}
 use Rattle.submission.specs.Scan.{sameBytes}
@@ -25,9 +25,13 @@ module _ (s : List ℕ) where
   unfolding isSubmission
   other-mark h m = rw (le-leb prefixSize (length s) h, m) refl
 
-  else-version : (v : ℕ) → v ≡ version s → prefixSize ≤ length s → sameBytes (take 3 s) mark ≡ true → eqb v 1 ≡ isSubmission s
+  version-zero : (v : ℕ) → v ≡ version s → prefixSize ≤ length s → sameBytes (take 3 s) mark ≡ true → v < 1 → false ≡ isSubmission s
   unfolding isSubmission
-  else-version v e h m = rw (e, le-leb prefixSize (length s) h, m) refl
+  version-zero v e h m l = rw (le-leb prefixSize (length s) h, m, lt-leb 1 (version s) (omega arith)) refl
+
+  else-version : (v : ℕ) → v ≡ version s → prefixSize ≤ length s → sameBytes (take 3 s) mark ≡ true → 1 ≤ v → leb v 2 ≡ isSubmission s
+  unfolding isSubmission
+  else-version v e h m l = rw (e, le-leb prefixSize (length s) h, m, le-leb 1 (version s) (omega arith)) refl
 
 returns : tie.Need-returns
 returns c = too-short (c .before .before .args .s .now) (c .if1 .taken)
@@ -46,13 +50,22 @@ returns-2 c =
     let a = c .before .before .before .before .before .before .args in
     other-mark (a .s .now) (omega arith) (cc (not-true (c .before .same-bytes .result) (c .if2 .taken)))
 
-read-u16-requires : tie.Need-read-u16-requires
-read-u16-requires c κs = search needs
+version-requires : tie.Need-version-requires
+version-requires c κs = search needs
+
+-- behind the test of the mark
+marked : (c : tie.After-version) → sameBytes (take 3 (c .before .before .before .before .before .before .before .args .s .now)) mark ≡ true
+marked c = cc (not-false (c .before .before .same-bytes .result) (c .before .if2 .left))
 
 returns-3 : tie.Need-returns-3
 returns-3 c =
-    let a = c .before .before .before .before .before .before .before .args in
-    else-version (a .s .now) (c .read-u16 .result) (omega arith) (omega arith) (cc (not-false (c .before .before .same-bytes .result) (c .before .if2 .left)))
+    let a = c .before .before .before .before .before .before .before .before .args in
+    version-zero (a .s .now) (c .before .version .result) (c .before .version .ensures) (omega arith) (marked (c .before)) (c .if3 .taken)
+
+returns-4 : tie.Need-returns-4
+returns-4 c =
+    let a = c .before .before .before .before .before .before .before .before .args in
+    else-version (a .s .now) (c .before .version .result) (c .before .version .ensures) (omega arith) (marked (c .before)) (c .if3 .left)
 
 pub is-submission-spec : {M : Type 1} → statement M
 is-submission-spec =
@@ -63,5 +76,6 @@ is-submission-spec =
     slice-aggregate-same-bytes-2
     same-bytes-requires
     returns-2
-    read-u16-requires
-    returns-3)
+    version-requires
+    returns-3
+    returns-4)

@@ -14,7 +14,7 @@ use Rattle.submission.specs.Layout.{linePart, layoutOf, bytesOf}
 use Rattle.submission.specs.Rules.{entryHolds}
 use Rattle.submission.specs.declared.Part.{Part}
 use Rattle.submission.specs.declared.Layout.{Layout}
-use Rattle.submission.proofs.ParseLaws.{count-is, line-is, long-line, bad-entry, other-end, zero-in-line, else-strings}
+use Rattle.submission.proofs.ParseLaws.{count-is, line-is, end-is, long-line, bad-entry, other-end, zero-in-line, else-strings}
 use Rattle.submission.proofs.rules.rules_hold.Statement.{statement}
 use Rattle.submission.proofs.rules.rules_hold.Tie as tie
 
@@ -37,7 +37,7 @@ returns c =
 entries-hold-requires : tie.Need-entries-hold-requires
 entries-hold-requires c κs =
     let at-start = c .before .before .before .before in
-    rw (count-is (at-start .args .s .now) (at-start .args .l) (at-start .pre .0)) (at-start .pre .2)
+    rw (count-is (at-start .args .s .now) (at-start .args .l) (at-start .pre .0)) (at-start .pre .1)
 
 returns-2 : tie.Need-returns-2
 returns-2 c =
@@ -47,8 +47,9 @@ returns-2 c =
 
 returns-3 : tie.Need-returns-3
 returns-3 c =
-    let at-start = c .before .before .before .before .before .before .before in
-    sym (other-end (at-start .args .s .now) (λ e. omega (arith, at-start .pre .1)))
+    let at-start = c .before .before .before .before .before .before .before .before in
+    let s = at-start .args .s .now in
+    sym (other-end s (λ e. omega (arith, end-is s (at-start .args .l) (at-start .pre .0))))
 
 bytes-of-requires : tie.Need-bytes-of-requires
 bytes-of-requires c κs = search needs
@@ -58,7 +59,7 @@ has-zero-requires c κs = search needs
 
 returns-4 : tie.Need-returns-4
 returns-4 c =
-    let at-start = c .before .before .before .before .before .before .before .before .before .before in
+    let at-start = c .before .before .before .before .before .before .before .before .before .before .before in
     let s = at-start .args .s .now in
     sym (zero-in-line s (zero-is s (at-start .args .l) (at-start .pre .0) _ _ (c .before .before .bytes-of .ensures) (c .before .has-zero .ensures) ∙ c .if4 .taken))
 
@@ -68,7 +69,7 @@ strings-hold-requires c κs = search needs
 returns-5 : tie.Need-returns-5
 returns-5 c =
     let after-bytes-of = c .before .before .before in
-    let at-if2 = after-bytes-of .before .before in
+    let at-if2 = after-bytes-of .before .before .before in
     let after-entries-hold = at-if2 .before in
     let at-start = after-entries-hold .before .before .before .before .before in
     let s = at-start .args .s .now in
@@ -76,9 +77,9 @@ returns-5 c =
     let q = at-start .pre .0 in
     c .strings-hold .ensures
     ∙ sym
-    (else-strings s (at-start .pre .2) (omega (arith, length-is s l q))
+    (else-strings s (at-start .pre .1) (omega (arith, length-is s l q))
     (entries-are s l q _ (after-entries-hold .entries-hold .ensures) ∙ not-false _ (at-if2 .if2 .left))
-    (omega (arith, at-start .pre .1))
+    (omega (arith, end-is s l q))
     (zero-is s l q _ _ (after-bytes-of .bytes-of .ensures) (c .before .before .has-zero .ensures) ∙ c .before .if4 .left))
 
 pub rules-hold-spec : {M : Type 1} → statement M

@@ -2,6 +2,7 @@
 
 mod bios_data;
 mod board;
+mod ceilings;
 mod elf;
 mod false_headers;
 mod flags;
@@ -19,6 +20,7 @@ use crate::rules::numbers;
 use crate::rules::offsets::submission;
 use bios_data::BiosData;
 use board::OnBoard;
+use ceilings::Ceilings;
 use load::Load;
 use std::collections::BTreeMap;
 use std::fmt;
@@ -53,6 +55,7 @@ impl Coverage {
             Err(refused) => {
                 self.record_rules(refused.refusal.number(), &refused.rules);
                 self.count(border_goals(case, refused.refusal));
+                self.count(ceilings::version_goals(case, refused.refusal));
                 self.count(false_headers::refusal_goals(case, refused.refusal));
                 self.count(flags::refusal_goals(case, refused.refusal));
                 self.count(elf::refusal_goals(case, &refused));
@@ -74,6 +77,7 @@ impl Coverage {
         self.count(OnBoard { case, reading, outcome }.goals());
         self.count(elf::board_goals(reading, outcome));
         self.count(BiosData { reading, outcome }.goals());
+        self.count(Ceilings { case, reading, outcome }.goals());
         if let Ok(plan) = &read_words(&outcome.words) {
             self.count(Load { case, reading, plan, outcome }.goals());
             self.count(elf::load_goals(reading, plan));
@@ -178,9 +182,9 @@ mod tests {
     fn a_rule_that_is_never_the_only_one_broken_is_a_gap() {
         let with = |at: usize, byte: u8| [&b1()[..at], &[byte], &b1()[at + 1..]].concat();
         let mark = "number 1 for another mark alone: 0 times, not 1".to_string();
-        assert!(gaps(&with(3, 2)).contains(&mark));
+        assert!(gaps(&with(3, 3)).contains(&mark));
         assert!(!gaps(&with(0, b'X')).contains(&mark));
-        let both = [&b"XSB\x02"[..], &b1()[4..]].concat();
+        let both = [&b"XSB\x03"[..], &b1()[4..]].concat();
         assert!(gaps(&both).contains(&mark));
     }
 

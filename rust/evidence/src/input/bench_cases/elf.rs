@@ -5,7 +5,7 @@ use super::{
     FLAGS_10000,
 };
 use crate::input::case::Case;
-use crate::input::draft::{overlay, pattern, submission, Module};
+use crate::input::draft::{overlay, pattern, submission, Module, Version};
 use crate::input::elf::{Elf, ElfHeader, ProgramHeader};
 use crate::input::pair::Pair;
 use crate::rules::limits::{ELF_HEADER, HEADER_MAGIC, PROGRAM_HEADER, RAM};
@@ -468,8 +468,8 @@ fn open_borders() -> Vec<BenchCase> {
 /// The gap between E1's segments has eight bytes.
 fn gap_borders() -> Vec<BenchCase> {
     let with = |data: &[u8]| {
-        let module = Module { data: data.to_vec(), string: b"a".to_vec() };
-        on_board(submission(&e1_image(), b"", &[module]))
+        let module = Module { data: data.to_vec(), string: b"a".to_vec(), ceiling: 0 };
+        on_board(submission(Version::One, &e1_image(), b"", &[module]))
     };
     let segments = [CODE_SEGMENT, DATA_SEGMENT];
     let between = e1_like(&segments, [0x10_0010, 0x10_0018], BLOCK);

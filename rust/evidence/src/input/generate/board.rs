@@ -2,7 +2,7 @@
 
 use crate::input::pair::Pair;
 use crate::input::rng::Rng;
-use crate::rules::limits::{ADDRESS_SPACE, BIOS_DATA_END, FLOOR, LOW_MEMORY, PAGE, RAM, TOP};
+use crate::rules::limits::{ADDRESS_SPACE, BIOS_DATA_END, FLOOR, LOW_MEMORY, MIB, PAGE, RAM, TOP};
 use crate::rules::Item;
 use std::ops::Range;
 
@@ -98,7 +98,8 @@ fn pair_of(start: u64, end: u64, kind: u32) -> Pair {
 fn regions(rng: &mut Rng, needs: &Needs) -> Vec<Region> {
     let boundaries: &[u64] = if needs.kernel.len() < 4 { &[1, 1, 4, PAGE] } else { &[1, 1, 4] };
     let boundary = rng.pick(boundaries);
-    let extents = needs.kernel.iter().map(|&length| Item { length, boundary }).enumerate();
+    let extents =
+        needs.kernel.iter().map(|&length| Item { length, boundary, ceiling: None }).enumerate();
     let mut wanted: Vec<_> = extents.map(|(index, item)| (item, Some(index))).collect();
     if rng.one_in(3) {
         rng.shuffle(&mut wanted);
@@ -241,6 +242,24 @@ pub fn low(rng: &mut Rng, needs: &Needs) -> Board {
     let mut pairs = vec![Pair::new(0, end + rng.below(100), RAM)];
     pad(rng, &mut pairs, needs.pairs, &window);
     Board { pairs, load_addrs, window }
+}
+
+/// Usable memory from where the first item, placed there, ends at or a little above a multiple of
+/// 1 MiB, or at most its boundary below; the kernel lies behind, and at times a gap before.
+pub fn at_ceiling(rng: &mut Rng, needs: &Needs) -> Board {
+    let Item { length, boundary, .. } = needs.items[0];
+    let ceiling = MIB * rng.pick(&[2, 2, 3, 16, 0x800, 0xFFE]);
+    let upper = (ceiling - length).next_multiple_of(boundary);
+    let start = upper - rng.pick(&[0, 0, 0, boundary]);
+    let first = start + length + rng.pick(&[0, 0, 16, boundary]);
+    let mut window = start..first + needs.room();
+    let mut pairs = vec![pair_of(start, window.end, RAM)];
+    if needs.pairs > 1 && rng.one_in(3) {
+        window.start -= boundary;
+        pairs.push(pair_of(window.start, start - 1, RAM));
+    }
+    pad(rng, &mut pairs, needs.pairs, &window);
+    Board { pairs, load_addrs: laid(rng, needs, first), window }
 }
 
 /// Pairs of all kinds thrown over a window, which may be empty.

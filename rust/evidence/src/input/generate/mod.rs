@@ -3,6 +3,7 @@
 
 mod address_fields;
 mod board;
+mod ceilings;
 mod damage;
 mod elf;
 mod image;
@@ -10,7 +11,7 @@ mod image;
 pub use image::image;
 
 use crate::input::case::Case;
-use crate::input::draft::{Draft, Header, Module};
+use crate::input::draft::{Draft, Header, Module, Version};
 use crate::input::elf::Elf;
 use crate::input::pair::Pair;
 use crate::input::review_board;
@@ -21,22 +22,43 @@ use crate::rules::limits::{
 };
 use crate::rules::Item;
 use board::{Board, Needs};
+use std::ops::Range;
 
 /// The length of images that are longer than the part searched for a header.
 const LONG_IMAGE: usize = 9000;
 
 type MakeBoard = fn(&mut Rng, &Needs) -> Board;
 
+/// How a sound draft is made.
+#[derive(Clone, Copy)]
+struct Recipe {
+    modules: fn(&mut Rng, bool) -> Vec<Module>,
+    board: MakeBoard,
+    version: fn(&mut Rng, &mut [Module], &Range<u64>) -> Version,
+}
+
+impl Recipe {
+    fn on(board: MakeBoard) -> Self {
+        Recipe { modules, board, version: ceilings::any_version }
+    }
+
+    /// Modules around a ceiling.
+    fn at_ceiling() -> Self {
+        Recipe { modules: ceilings::modules, board: board::at_ceiling, version: ceilings::close }
+    }
+}
+
 /// The case of an index in the run of a seed.
 pub fn case(seed: u64, index: u64) -> Case {
     let mut rng = Rng::of_case(seed, index);
     let boards: [MakeBoard; 4] = [board::fitted, board::fitted, board::roomy, board::scattered];
-    let make = match rng.below(100) {
-        0 => board::across_low,
-        1..=4 => board::low,
-        _ => rng.pick(&boards),
+    let recipe = match rng.below(100) {
+        0 => Recipe::on(board::across_low),
+        1..=4 => Recipe::on(board::low),
+        5..=7 => Recipe::at_ceiling(),
+        _ => Recipe::on(rng.pick(&boards)),
     };
-    let mut draft = sound(&mut rng, make);
+    let mut draft = sound(&mut rng, recipe);
     let name = format!("seed {seed} index {index}");
     match rng.below(20) {
         0..=10 => draft.case(name),
@@ -57,7 +79,7 @@ pub fn case(seed: u64, index: u64) -> Case {
 /// The submission of an index, made for the review program's board.
 pub fn review_submission(seed: u64, index: u64) -> Vec<u8> {
     let mut rng = Rng::of_case(seed, index);
-    let draft = sound(&mut rng, for_review);
+    let draft = sound(&mut rng, Recipe::on(for_review));
     let times = rng.below(2) as usize;
     damage::damaged(&mut rng, draft, damage::of_submission, times, String::new()).submission
 }
@@ -72,22 +94,25 @@ fn for_review(rng: &mut Rng, needs: &Needs) -> Board {
 }
 
 /// A draft that breaks no rule before check 15.
-fn sound(rng: &mut Rng, make: MakeBoard) -> Draft {
+fn sound(rng: &mut Rng, recipe: Recipe) -> Draft {
     let shape = Shape::new(rng);
     let flags = flags(rng);
-    let modules = modules(rng, flags & PAGE_ALIGNED != 0);
+    let mut modules = (recipe.modules)(rng, flags & PAGE_ALIGNED != 0);
     let line = text(rng, MAX_LINE);
     let operator = text(rng, MAX_LINE);
     let kernel = shape.extents();
     let sizes = pair_sizes(rng, kernel.len() + modules.len());
     let boundary = if flags & PAGE_ALIGNED != 0 { PAGE } else { WORD };
     let in_force = if operator.is_empty() { &line } else { &operator };
-    let item = |module: &Module| Item { length: module.data.len() as u64, boundary };
-    let mut items: Vec<_> = modules.iter().map(item).collect();
-    items.push(Item { length: block_length(&sizes, in_force, &modules), boundary: WORD });
-    let board = make(rng, &Needs { kernel, items, pairs: sizes.len() });
+    let item = |length: u64, boundary: u64| Item { length, boundary, ceiling: None };
+    let lengths = modules.iter().map(|module| module.data.len() as u64);
+    let mut items: Vec<_> = lengths.map(|length| item(length, boundary)).collect();
+    items.push(item(block_length(&sizes, in_force, &modules), WORD));
+    let board = (recipe.board)(rng, &Needs { kernel, items, pairs: sizes.len() });
+    let version = (recipe.version)(rng, &mut modules, &board.window);
     let (header, elf) = shape.headers(flags, &board.load_addrs);
     Draft {
+        version,
         filler: filler(rng, shape.image_length()),
         decoys: decoys(rng, header.offset),
         header,
@@ -172,7 +197,7 @@ fn module(rng: &mut Rng) -> Module {
         _ if rng.one_in(100) => 1 + rng.below(200_000),
         _ => 1 + rng.below(3000),
     };
-    Module { data: rng.bytes(length as usize), string: text(rng, MAX_STRING) }
+    Module { data: rng.bytes(length as usize), string: text(rng, MAX_STRING), ceiling: 0 }
 }
 
 /// A text of up to `most` bytes, often empty.
@@ -260,7 +285,7 @@ mod tests {
     fn any_damages_go_together() {
         for index in 0..20_000 {
             let mut rng = Rng::of_case(1, index);
-            let draft = sound(&mut rng, board::roomy);
+            let draft = sound(&mut rng, Recipe::on(board::roomy));
             damage::damaged(&mut rng, draft, damage::all, 8, String::new());
         }
     }

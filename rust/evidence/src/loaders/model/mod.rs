@@ -64,9 +64,12 @@ impl Reading<'_> {
     /// Checks 15 to 17: the starts of the modules and of the block, or the refusal that applies.
     pub fn place(&self) -> Result<Vec<u64>, Refusal> {
         let boundary = if self.kernel.pages { PAGE } else { WORD };
-        let item = |module: &Module| Item { length: module.data.len() as u64, boundary };
+        let item = |module: &Module| {
+            let length = module.data.len() as u64;
+            Item { length, boundary, ceiling: module.ceiling }
+        };
         let modules: Vec<Item> = self.submission.modules.iter().map(item).collect();
-        let block = Item { length: self.block_length(), boundary: WORD };
+        let block = Item { length: self.block_length(), boundary: WORD, ceiling: None };
         let extents: Vec<Range<u64>> = self.kernel.segments.iter().map(Segment::extent).collect();
         self.board.place(&extents, &modules, block)
     }

@@ -65,10 +65,11 @@ impl Board {
     fn take(&self, free: &mut [bool], item: Item) -> Option<u64> {
         let first = self.window.start;
         let is_free = |a: u64| self.window.contains(&a) && free[(a - first) as usize];
-        let start = self
-            .window
-            .clone()
-            .find(|&a| a >= FLOOR && a % item.boundary == 0 && (a..a + item.length).all(is_free))?;
+        let on_boundary = |a: u64| a % item.boundary == 0;
+        let under_ceiling = |a: u64| item.ceiling.is_none_or(|c| a + item.length <= c);
+        let all_free = |a: u64| (a..a + item.length).all(is_free);
+        let fits = |&a: &u64| a >= FLOOR && on_boundary(a) && under_ceiling(a) && all_free(a);
+        let start = self.window.clone().find(fits)?;
         for address in start..start + item.length {
             free[(address - first) as usize] = false;
         }

@@ -1,7 +1,9 @@
 //! The submission (checks 1 and 2).
 
 use super::{check, number, rule, Refused};
-use crate::rules::limits::{MARK, MAX_LINE, MAX_MODULES, MAX_STRING, PREFIX, TABLE_ENTRY, VERSION};
+use crate::rules::limits::{
+    MARK, MAX_LINE, MAX_MODULES, MAX_STRING, MIB, PREFIX, TABLE_ENTRY, VERSION_1, VERSION_2,
+};
 use crate::rules::offsets::{submission, table_entry};
 use std::ops::Range;
 use viertompu::Refusal;
@@ -16,20 +18,26 @@ pub struct Submission<'a> {
 pub struct Module<'a> {
     pub data: &'a [u8],
     pub string: &'a [u8],
+    /// the address at or below which it ends, if it has a ceiling
+    pub ceiling: Option<u64>,
 }
 
 /// Checks 1 and 2.
 pub fn read(bytes: &[u8]) -> Result<Submission<'_>, Refused> {
+    let is_not = |version: u16| differs(bytes, submission::VERSION, &version.to_le_bytes());
     let identity = [
         rule("under 12 bytes", bytes.len() < PREFIX),
         rule("another mark", differs(bytes, 0, MARK)),
-        rule("another version", differs(bytes, submission::VERSION, &VERSION.to_le_bytes())),
+        rule("another version", [VERSION_1, VERSION_2].into_iter().all(is_not)),
     ];
     check(Refusal::NotASubmission, identity)?;
     let layout = Layout::new(bytes);
     layout.check_parts()?;
-    let module =
-        |k| Module { data: layout.part(layout.data(k)), string: layout.part(layout.string(k)) };
+    let module = |k: usize| Module {
+        data: layout.part(layout.data(k)),
+        string: layout.part(layout.string(k)),
+        ceiling: layout.entries[k].ceiling(),
+    };
     Ok(Submission {
         image: layout.part(layout.image()),
         line: layout.part(layout.line()),
@@ -46,7 +54,7 @@ fn differs(bytes: &[u8], at: usize, expected: &[u8]) -> bool {
 struct Entry {
     data_length: Option<u64>,
     string_length: Option<u64>,
-    reserved: Option<u64>,
+    ceiling_in_mib: Option<u64>,
 }
 
 impl Entry {
@@ -56,7 +64,7 @@ impl Entry {
         Entry {
             data_length: field(table_entry::DATA_LENGTH, 4),
             string_length: field(table_entry::STRING_LENGTH, 2),
-            reserved: field(table_entry::RESERVED, 2),
+            ceiling_in_mib: field(table_entry::CEILING, 2),
         }
     }
 
@@ -65,12 +73,18 @@ impl Entry {
     fn length(&self) -> u64 {
         self.data_length.unwrap_or(0) + self.string_length.unwrap_or(0)
     }
+
+    /// The ceiling as an address; 0 is none.
+    fn ceiling(&self) -> Option<u64> {
+        self.ceiling_in_mib.filter(|&count| count != 0).map(|count| count * MIB)
+    }
 }
 
 /// A submission of 12 bytes or more with the lengths that it states; where a part lies follows from
 /// the lengths of the parts before it.
 struct Layout<'a> {
     bytes: &'a [u8],
+    version: u64,
     image_length: u64,
     line_length: u64,
     entries: Vec<Entry>,
@@ -82,6 +96,7 @@ impl<'a> Layout<'a> {
         let module_count = field(submission::MODULE_COUNT, 1) as usize;
         Layout {
             bytes,
+            version: field(submission::VERSION, 2),
             image_length: field(submission::IMAGE_LENGTH, 4),
             line_length: field(submission::LINE_LENGTH, 2),
             entries: (0..module_count).map(|k| Entry::new(bytes, k)).collect(),
@@ -123,7 +138,8 @@ impl<'a> Layout<'a> {
         let entries = || self.entries.iter();
         let over = |length: u64, most: usize| length > most as u64;
         let long_string = |entry: &Entry| entry.string_length.is_some_and(|n| over(n, MAX_STRING));
-        let is_set = |entry: &Entry| entry.reserved.is_some_and(|value| value != 0);
+        let has_ceiling = |entry: &Entry| entry.ceiling().is_some();
+        let version_1 = self.version == u64::from(VERSION_1);
         let has_zero = |offsets| self.part(offsets).contains(&0);
         let (count, length) = (self.entries.len(), self.bytes.len() as u64);
         let end = self.modules_end(count);
@@ -132,7 +148,7 @@ impl<'a> Layout<'a> {
             rule("a command line over 255 bytes", over(self.line_length, MAX_LINE)),
             rule("a module without data", entries().any(|entry| entry.data_length == Some(0))),
             rule("a module string over 127 bytes", entries().any(long_string)),
-            rule("a reserved byte that is set", entries().any(is_set)),
+            rule("a ceiling in version 1", version_1 && entries().any(has_ceiling)),
             rule("parts that end before the submission", end < length),
             rule("parts that end past the submission", end > length),
             rule("a zero byte in the command line", has_zero(self.line())),

@@ -16,7 +16,7 @@ mod submission;
 pub use mending::mend;
 
 use crate::input::case::Case;
-use crate::rules::limits::{BIOS_DATA_END, BOOT_MAGIC, MAX_LINE, PAGE, TOP, WORD};
+use crate::rules::limits::{ADDRESS_SPACE, BIOS_DATA_END, BOOT_MAGIC, MAX_LINE, PAGE, TOP, WORD};
 use crate::rules::{words, Decision, Item};
 use block::Block;
 use image::Segment;
@@ -25,7 +25,7 @@ use memory_map::MemoryMap;
 use spans::{Span, SpanSet};
 use std::array::from_fn;
 use std::ops::Range;
-use submission::Submission;
+use submission::{Module, Submission};
 use viertompu::{Plan, Refusal, Words};
 
 /// Loads the case into the window, or refuses and leaves the window as it was.
@@ -70,14 +70,16 @@ impl Examined<'_> {
     /// The modules in list order.
     fn module_items(&self) -> Vec<Item> {
         let boundary = if self.kernel.pages { PAGE } else { WORD };
-        let item = |length: usize| Item { length: length as u64, boundary };
-        let modules = self.submission.modules.iter();
-        modules.map(|module| item(module.data.len())).collect()
+        let item = |module: &Module| {
+            let length = module.data.len() as u64;
+            Item { length, boundary, ceiling: module.ceiling }
+        };
+        self.submission.modules.iter().map(item).collect()
     }
 
     /// The information block.
     fn block_item(&self) -> Item {
-        Item { length: block::length(self), boundary: WORD }
+        Item { length: block::length(self), boundary: WORD, ceiling: None }
     }
 }
 
@@ -111,9 +113,11 @@ fn open_around(examined: &Examined) -> Option<SpanSet> {
     Some(free)
 }
 
-/// Takes the lowest place of an item out of the free memory, or nothing where it has none.
+/// Takes the lowest place of an item out of the free memory, or nothing where it has none. All of
+/// an item lies below its ceiling, so only the free memory below it counts.
 fn take(free: &mut SpanSet, item: Item) -> Option<Span> {
-    let start = free.lowest_place(item.length, item.boundary)?;
+    let below = Span { start: 0, end: item.ceiling.unwrap_or(ADDRESS_SPACE) };
+    let start = free.within(below).lowest_place(item.length, item.boundary)?;
     let span = Span { start, end: start + item.length };
     free.remove(span);
     Some(span)

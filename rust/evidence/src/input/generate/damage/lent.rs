@@ -2,7 +2,7 @@
 //! (checks 1 to 5).
 
 use crate::input::case::Case;
-use crate::input::draft::{Draft, Module};
+use crate::input::draft::{Draft, Module, Version};
 use crate::input::pair::{map_bytes, Pair};
 use crate::input::rng::Rng;
 use crate::rules::bytes::{put_u32, u32_at};
@@ -19,7 +19,7 @@ pub fn not_a_submission(rng: &mut Rng, case: &mut Case) {
         0 => bytes.truncate(rng.below(PREFIX as u64) as usize),
         1 => bytes[rng.below(3) as usize] ^= 1 << rng.below(8),
         _ => {
-            let version: u16 = rng.pick(&[0, 2, 3, 0x0100, 0x0101, 0xFFFF]);
+            let version: u16 = rng.pick(&[0, 3, 0x0100, 0x0101, 0x0102, 0xFFFF]);
             bytes[submission::VERSION..][..2].copy_from_slice(&version.to_le_bytes());
         }
     }
@@ -27,8 +27,8 @@ pub fn not_a_submission(rng: &mut Rng, case: &mut Case) {
 
 /// 2: parts that are there but may not be.
 pub fn bad_parts(rng: &mut Rng, draft: &mut Draft) {
-    let mut module = Module { data: vec![0xAA], string: Vec::new() };
-    match rng.below(6) {
+    let mut module = Module { data: vec![0xAA], ..Module::default() };
+    match rng.below(7) {
         0 => draft.line = overlong(rng, MAX_LINE),
         1 => put_zero(rng, &mut draft.line),
         2 => draft.modules.resize(MAX_MODULES + 1, module),
@@ -38,6 +38,11 @@ pub fn bad_parts(rng: &mut Rng, draft: &mut Draft) {
         }
         4 => {
             module.string = overlong(rng, MAX_STRING);
+            draft.modules.push(module);
+        }
+        5 => {
+            draft.version = Version::One;
+            module.ceiling = rng.pick(&[1, 2, 0x0100, u16::MAX]);
             draft.modules.push(module);
         }
         _ => {
@@ -84,7 +89,7 @@ pub fn bad_lengths(rng: &mut Rng, case: &mut Case) {
     }
 }
 
-/// A module table with a set last field, or lengths that reach the end only modulo 2^32.
+/// A module table whose lengths lead a byte past the end, or to it only modulo 2^32.
 fn bad_table(rng: &mut Rng, bytes: &mut [u8]) {
     // An earlier damage may have cut the table short.
     let there = (bytes.len() - PREFIX) / TABLE_ENTRY;
@@ -95,13 +100,11 @@ fn bad_table(rng: &mut Rng, bytes: &mut [u8]) {
     }
     let entry = PREFIX + TABLE_ENTRY * rng.below(count as u64) as usize;
     let data_length = entry + table_entry::DATA_LENGTH;
-    match rng.below(3) {
-        0 => bytes[entry + table_entry::RESERVED + rng.below(2) as usize] = 1,
-        1 => add_u32(bytes, data_length, 1),
-        _ => {
-            add_u32(bytes, submission::IMAGE_LENGTH, 0x8000_0000);
-            add_u32(bytes, data_length, 0x8000_0000);
-        }
+    if rng.one_in(2) {
+        add_u32(bytes, data_length, 1);
+    } else {
+        add_u32(bytes, submission::IMAGE_LENGTH, 0x8000_0000);
+        add_u32(bytes, data_length, 0x8000_0000);
     }
 }
 

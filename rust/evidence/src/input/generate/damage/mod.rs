@@ -5,7 +5,7 @@ mod image;
 mod lent;
 
 use crate::input::case::Case;
-use crate::input::draft::{mark_and_version, overlay, Draft};
+use crate::input::draft::{mark_and_version, overlay, Draft, Version};
 use crate::input::rng::Rng;
 use crate::rules::limits::PREFIX;
 use Damage::{Bytes, Draft as InDraft};
@@ -152,7 +152,8 @@ fn garbage(rng: &mut Rng) -> Vec<u8> {
     let length = rng.below(200) as usize;
     let mut bytes = rng.bytes(length);
     if rng.below(4) > 0 {
-        overlay(&mut bytes, 0, &mark_and_version());
+        let version = rng.pick(&[Version::One, Version::Two]);
+        overlay(&mut bytes, 0, &mark_and_version(version));
     }
     bytes
 }
