@@ -75,11 +75,12 @@ impl Ceilings<'_> {
         ]
     }
 
+    /// Have `with` of the modules, some and not all, a ceiling?
     fn mixed(&self, with: usize) -> bool {
         0 < with && with < self.modules().len()
     }
 
-    /// The modules with their spans and ceilings, of those that have one.
+    /// The modules that have a ceiling, by index, with their spans and ceilings.
     fn limited<'p>(&self, plan: &'p Plan) -> Vec<(usize, &'p Span, u64)> {
         let modules = self.modules().iter().zip(&plan.modules).enumerate();
         modules.filter_map(|(i, (m, span))| m.ceiling.map(|c| (i, span, c))).collect()
