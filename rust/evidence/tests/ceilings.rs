@@ -9,8 +9,7 @@ use evidence::input::pair::Pair;
 use evidence::input::{generate, review_board};
 use evidence::loaders::{model, run, second, Loader, Outcome, PROVED};
 use evidence::rules::limits::{
-    ADDRESS_FIELDS, FULL_HEADER, MIB, PAGE, PAGE_ALIGNED, PREFIX, RAM, TABLE_ENTRY, VERSION_1,
-    VERSION_2, WORD,
+    FULL_HEADER, MIB, PAGE, PAGE_ALIGNED, PREFIX, RAM, TABLE_ENTRY, VERSION_1, VERSION_2, WORD,
 };
 use evidence::rules::numbers;
 use evidence::rules::offsets::{submission, table_entry};
@@ -117,19 +116,12 @@ fn a_ceiling_of_1_mib_alone_leaves_no_room_above_1_mib() {
 /// A kernel that ends at an address, and behind it a module under a ceiling of 2 MiB.
 fn behind(end: u64, flags: u32, length: u64) -> Case {
     let first = (end - FULL_HEADER as u64) as u32;
-    let header = Header {
-        flags: ADDRESS_FIELDS | flags,
-        header_addr: first,
-        load_addr: first,
-        entry_addr: first,
-        ..Header::default()
-    };
     let module = Module { data: vec![0x5A; length as usize], ceiling: 2, ..Module::default() };
     let room = 4 * PAGE;
     let draft = Draft {
         version: Version::Two,
         filler: vec![0; FULL_HEADER],
-        header,
+        header: Header::loading_to(first, flags),
         modules: vec![module],
         pairs: vec![Pair::new(first.into(), room, RAM)],
         first,

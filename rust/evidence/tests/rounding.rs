@@ -4,7 +4,7 @@ use evidence::compare::common_outcome;
 use evidence::input::case::Case;
 use evidence::input::draft::{Draft, Header, Module};
 use evidence::input::pair::Pair;
-use evidence::rules::limits::{ADDRESS_FIELDS, FLOOR, FULL_HEADER, PAGE, PAGE_ALIGNED, RAM, WORD};
+use evidence::rules::limits::{FLOOR, FULL_HEADER, PAGE, PAGE_ALIGNED, RAM, WORD};
 use viertompu::read_words;
 
 /// The lowest of the kernels' ends, a page boundary.
@@ -15,14 +15,7 @@ const ROOM: u64 = 3 * PAGE;
 /// A kernel from 1 MiB up to an end, and a module of one byte.
 fn kernel_up_to(end: u64, flags: u32) -> Case {
     let first = FLOOR as u32;
-    let header = Header {
-        flags: ADDRESS_FIELDS | flags,
-        header_addr: first,
-        load_addr: first,
-        bss_end_addr: end as u32,
-        entry_addr: first,
-        ..Header::default()
-    };
+    let header = Header { bss_end_addr: end as u32, ..Header::loading_to(first, flags) };
     let draft = Draft {
         filler: vec![0; FULL_HEADER],
         header,

@@ -23,6 +23,17 @@ pub struct Header {
 }
 
 impl Header {
+    /// A header in front of an image, all of which is loaded to an address and entered there.
+    pub fn loading_to(start: u32, flags: u32) -> Self {
+        Header {
+            flags: ADDRESS_FIELDS | flags,
+            header_addr: start,
+            load_addr: start,
+            entry_addr: start,
+            ..Header::default()
+        }
+    }
+
     /// The checksum for these flags.
     pub fn checksum(flags: u32) -> u32 {
         0u32.wrapping_sub(HEADER_MAGIC).wrapping_sub(flags)

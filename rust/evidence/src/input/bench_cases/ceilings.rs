@@ -4,7 +4,7 @@ use super::{b1, b1_plan, loads, on_board, plan, refused, BenchCase};
 use crate::input::case::Case;
 use crate::input::draft::{pattern, submission, Header, Module, Version};
 use crate::input::pair::{map_bytes, Pair};
-use crate::rules::limits::{ADDRESS_FIELDS, PAGE_ALIGNED, RAM};
+use crate::rules::limits::{PAGE_ALIGNED, RAM};
 use viertompu::{Plan, Refusal};
 
 /// The length of a module, and its ceiling.
@@ -13,13 +13,6 @@ type Limited = (usize, u16);
 /// A kernel of 32 bytes from an address on, which is a header alone, and modules, in a window that is
 /// all usable.
 fn in_window(first: u32, length: usize, start: u32, flags: u32, modules: &[Limited]) -> Case {
-    let header = Header {
-        flags: ADDRESS_FIELDS | flags,
-        header_addr: start,
-        load_addr: start,
-        entry_addr: start,
-        ..Header::default()
-    };
     let module = |&(length, ceiling): &Limited| Module {
         data: pattern(0, length),
         ceiling,
@@ -27,7 +20,12 @@ fn in_window(first: u32, length: usize, start: u32, flags: u32, modules: &[Limit
     };
     let modules: Vec<Module> = modules.iter().map(module).collect();
     Case {
-        submission: submission(Version::Two, &header.bytes(), b"", &modules),
+        submission: submission(
+            Version::Two,
+            &Header::loading_to(start, flags).bytes(),
+            b"",
+            &modules,
+        ),
         map: map_bytes(&[Pair::new(first.into(), length as u64, RAM)]),
         window: pattern(0, length),
         first,
