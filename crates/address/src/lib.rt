@@ -1,18 +1,20 @@
 // The two countings of a load: physical addresses, and offsets in the image. Neither turns into the other here.
+#![tactic(auto)]
+
 ghost use Rattle.std.specs.Prelude.{◌≡◌, ◌-◌, ◌<◌, ◌^◌, ltb};
 ghost use Rattle.address.specs.Address.{top, boundary_of, floor, round_up, inside};
 ghost use Rattle.address.specs.Span.{no_span, overlap};
 
 // A physical address, or the end of a span of them: an exact whole number.
-#[derive(Drop)]
+#[derive(Clone, Copy)]
 pub struct PhysAddr(pub u64);
 
 // A place in the image, counted from its first byte.
-#[derive(Drop)]
+#[derive(Clone, Copy)]
 pub struct ImageOffset(pub usize);
 
 // The addresses from start up to but not including end.
-#[derive(Drop)]
+#[derive(Clone, Copy)]
 pub struct Span {
     pub start: PhysAddr,
     pub end: PhysAddr,

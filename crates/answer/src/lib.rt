@@ -1,9 +1,11 @@
 // The numbered answers of a load: 0, or the first check that refuses.
+#![tactic(auto)]
+
 ghost use Rattle.std.specs.Prelude.{◌≡◌};
 ghost use Rattle.answer.specs.Answer.{number_of, item_of, is_load, or_else};
 
 // The refusals in the order of checks.
-#[derive(Drop)]
+#[derive(Clone, Copy)]
 pub enum Answer {
     // 0: no check applies: a load
     Load,

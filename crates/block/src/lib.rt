@@ -1,9 +1,11 @@
 // The information block that a kernel is handed: its length, known before any placing, and its bytes.
+#![tactic(auto)]
+
 pub mod size;
 pub mod write;
 
 // The fields of the information structure; its other words are zero.
-#[derive(Drop)]
+#[derive(Clone, Copy)]
 pub struct Structure {
     // which fields are given
     pub flags: u32,

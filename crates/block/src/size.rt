@@ -15,7 +15,7 @@ pub(crate) const MODULE_ENTRY: usize = 16;
 pub(crate) const NAME: usize = 8;
 
 // Where the parts behind the modules' entries stand, counted from the block's first byte.
-#[derive(Drop)]
+#[derive(Clone, Copy)]
 pub struct Offsets {
     pub map: usize,
     pub name: usize,

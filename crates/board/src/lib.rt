@@ -1,4 +1,6 @@
 // The memory that a load may write: what the memory map makes usable, inside the window, past interrupt vectors and BIOS data.
+#![tactic(auto)]
+
 ghost use Rattle.std.specs.Prelude.{◌≡◌, ◌-◌};
 ghost use Rattle.laws.specs.Tests.{all_from};
 ghost use Rattle.board.specs.Open.{is_open};
@@ -13,7 +15,7 @@ pub mod window;
 const BIOS_DATA_END: u64 = 0x500;
 
 // A memory map, and the window that stands for physical memory.
-#[derive(Drop)]
+#[derive(Clone, Copy)]
 pub struct Board {
     pub map: MemoryMap,
     pub window: Span,

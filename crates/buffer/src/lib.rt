@@ -1,5 +1,7 @@
 // Writing into a part of a lent buffer. A write is total: what would fall past the buffer's end is left out, and the
 // length never changes.
+#![tactic(auto)]
+
 ghost use Rattle.std.specs.Prelude.{◌≡◌, ◌-◌, min, length};
 ghost use Rattle.buffer.specs.Patched.{patched, zeros};
 
@@ -10,7 +12,7 @@ pub fn write_bytes(dst: &mut [u8], at: usize, src: &[u8])
     let n = room(dst.len(), at, src.len());
     if 0 < n {
         let end = at + n;
-        bytes::copy(&src[..n], &mut dst[at..end]);
+        dst[at..end].copy_from_slice(&src[..n]);
     }
 }
 

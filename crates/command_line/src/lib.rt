@@ -1,4 +1,6 @@
 // The operator's line, and the command line in force.
+#![tactic(auto)]
+
 ghost use Rattle.std.specs.Prelude.{◌≡◌};
 ghost use Rattle.laws.specs.Checks.{first_of};
 ghost use Rattle.command_line.specs.CommandLine.{operator_checks, command_line};

@@ -1,4 +1,6 @@
 // Deciding a load: all checks in their order, and the plan. Nothing here looks at the window's bytes or at a module's data.
+#![tactic(auto)]
+
 ghost use Rattle.std.specs.Prelude.{◌≡◌};
 ghost use Rattle.answer.specs.Answer.{or_else};
 ghost use Rattle.decision.specs.Lent.{lent};
@@ -12,7 +14,7 @@ use kernel::Kernel;
 mod place;
 
 // Where everything of a load lies, and what is handed over besides the entry; past the last module the spans are zero.
-#[derive(Drop)]
+#[derive(Clone, Copy)]
 pub struct Plan {
     pub kernel: Kernel,
     pub modules: [Span; submission::MAX_MODULES],
@@ -22,7 +24,7 @@ pub struct Plan {
 }
 
 // The answer, and the plan of a load; a refusal's plan is zeros.
-#[derive(Drop)]
+#[derive(Clone, Copy)]
 pub struct Decision {
     pub answer: Answer,
     pub plan: Plan,

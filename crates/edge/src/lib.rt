@@ -1,4 +1,6 @@
 // Edges: the addresses at which a span begins or ends. From one edge up to the next, either all addresses lie in the span or none does.
+#![tactic(auto)]
+
 ghost use Rattle.std.specs.Prelude.{◌≡◌};
 ghost use Rattle.edge.specs.Edge.{nearest, span_edge};
 

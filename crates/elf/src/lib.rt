@@ -1,4 +1,6 @@
 // An ELF image: the checks on its header and its table, and the kernel of its segments.
+#![tactic(auto)]
+
 ghost use Rattle.std.specs.Prelude.{◌≡◌, ◌≤◌};
 ghost use Rattle.laws.specs.Tests.{any};
 ghost use Rattle.laws.specs.Checks.{first_of};
@@ -27,7 +29,7 @@ pub fn is_elf(image: &[u8]) -> bool
 }
 
 // What a table says: the kernel of its segments, and whether a loadable program header does not fit.
-#[derive(Drop)]
+#[derive(Clone, Copy)]
 pub struct Table {
     pub kernel: Kernel,
     pub bad: bool,

@@ -14,7 +14,7 @@ pub(crate) const ELF_HEADER: usize = 52;
 pub(crate) const PROGRAM_HEADER: usize = 32;
 
 // The fields of an ELF header that decide how it is loaded.
-#[derive(Drop)]
+#[derive(Clone, Copy)]
 pub struct ElfHeader {
     pub ei_class: u8,
     pub ei_data: u8,
@@ -31,7 +31,7 @@ pub struct ElfHeader {
 }
 
 // The fields of a program header that decide how it is loaded.
-#[derive(Drop)]
+#[derive(Clone, Copy)]
 pub struct ProgramHeader {
     pub p_type: u32,
     // where its file bytes begin

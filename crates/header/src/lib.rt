@@ -1,4 +1,6 @@
 // The search for a Multiboot header.
+#![tactic(auto)]
+
 ghost use Rattle.std.specs.Prelude.{◌≡◌, ◌+◌, ◌^◌, ◌<◌, ◌≤◌, min, length, ◌==◌};
 ghost use Rattle.number.specs.Number.{number_at};
 ghost use Rattle.header.specs.Header.{header_magic, search_limit, short_header, sum_is_zero};
@@ -24,14 +26,14 @@ pub const FLAGS: usize = 4;
 pub const CHECKSUM: usize = 8;
 
 // What the search for a header finds.
-#[derive(Drop)]
+#[derive(Clone, Copy)]
 pub enum Search {
     At(ImageOffset),
     Nothing,
 }
 
 // What the search answers: the header, and how many false headers it passed over.
-#[derive(Drop)]
+#[derive(Clone, Copy)]
 pub struct Searched {
     pub header: Search,
     pub false_headers: u32,

@@ -1,4 +1,6 @@
 // A Multiboot image: its header, and the kernel that it asks for by address fields or as an ELF image.
+#![tactic(auto)]
+
 ghost use Rattle.std.specs.Prelude.{◌≡◌, ◌^◌, ◌<◌};
 ghost use Rattle.laws.specs.Checks.{first_of};
 ghost use Rattle.header.specs.Header.{header};

@@ -12,7 +12,7 @@ use header::Search;
 pub(crate) const FULL_HEADER: usize = 32;
 
 // The address fields of a header.
-#[derive(Drop)]
+#[derive(Clone, Copy)]
 pub struct AddressFields {
     // where the header goes
     pub header_addr: PhysAddr,

@@ -1,4 +1,6 @@
 // The items of a load, the kernel's extents that they are placed beside, and the spans of the modules among those placed.
+#![tactic(auto)]
+
 ghost use Rattle.std.specs.Prelude.{◌≡◌, ◌+◌, ◌≤◌};
 ghost use Rattle.submission.specs.Format.{max_modules};
 ghost use Rattle.placement.specs.Free.{max_spans};

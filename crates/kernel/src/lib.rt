@@ -1,4 +1,6 @@
 // The kernel that an image asks for: a list of segments, whatever kind of image it stands in.
+#![tactic(auto)]
+
 ghost use Rattle.std.specs.Prelude.{◌≡◌, ◌+◌, ◌≤◌};
 ghost use Rattle.kernel.specs.Kernel.{max_segments, no_segment, no_kernel, segment_no, extent_no};
 ghost use Rattle.kernel.specs.Checks.{entry_outside, overlaps_earlier, extents_overlap};
@@ -12,7 +14,7 @@ pub const MAX_SEGMENTS: usize = 16;
 
 // A stretch of the kernel: the addresses from start up to the load end get the image's bytes from `offset` on, those from
 // there up to the extent end zeros.
-#[derive(Drop)]
+#[derive(Clone, Copy)]
 pub struct Segment {
     pub start: PhysAddr,
     pub load_end: PhysAddr,
@@ -22,7 +24,7 @@ pub struct Segment {
 
 // The header found in an image of either kind: where it stands, how many false headers stand below it, and whether modules
 // lie on pages.
-#[derive(Drop)]
+#[derive(Clone, Copy)]
 pub struct FoundHeader {
     pub offset: ImageOffset,
     pub false_headers: u32,
@@ -31,7 +33,7 @@ pub struct FoundHeader {
 
 // What an image asks for: its header, whether modules lie on pages, the entry, and its segments; past the last segment the
 // entries are zero.
-#[derive(Drop)]
+#[derive(Clone, Copy)]
 pub struct Kernel {
     pub header: ImageOffset,
     pub false_headers: u32,
@@ -42,7 +44,7 @@ pub struct Kernel {
 }
 
 // The answer of an image's checks, and its kernel; with a refusal the kernel is all zeros.
-#[derive(Drop)]
+#[derive(Clone, Copy)]
 pub struct Judged {
     pub answer: Answer,
     pub kernel: Kernel,

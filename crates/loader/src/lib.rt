@@ -1,4 +1,6 @@
 // Loading: the decision, and then, where no check refuses, the writing. A refusal leaves the window as it was.
+#![tactic(auto)]
+
 ghost use Rattle.std.specs.Prelude.{◌≡◌, length};
 ghost use Rattle.decision.specs.Lent.{lent};
 ghost use Rattle.decision.specs.Decision.{decision_of};

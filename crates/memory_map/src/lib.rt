@@ -1,4 +1,6 @@
 // A memory map in the standard's pair form: check 5, and its pairs.
+#![tactic(auto)]
+
 ghost use Rattle.std.specs.Prelude.{◌≡◌, ◌||◌, ◌+◌, ◌^◌, ◌≤◌, ◌<◌, min, length};
 ghost use Rattle.memory_map.specs.Pairs.{kind_offset};
 ghost use Rattle.memory_map.specs.Map.{max_pairs, pair_at, too_small, past_end};
@@ -23,7 +25,7 @@ const LENGTH_OFFSET: usize = 12;
 const KIND_OFFSET: usize = 20;
 
 // A stretch of memory: the addresses from base on, as many as length says, of one type, which is wide so that there is no gap.
-#[derive(Drop)]
+#[derive(Clone, Copy)]
 pub struct Pair {
     pub base: u64,
     pub length: u64,
@@ -31,7 +33,7 @@ pub struct Pair {
 }
 
 // The pairs of a map; past the last the entries are zero.
-#[derive(Drop)]
+#[derive(Clone, Copy)]
 pub struct MemoryMap {
     pub pairs: [Pair; MAX_PAIRS],
     pub count: usize,
@@ -51,7 +53,7 @@ impl MemoryMap {
 }
 
 // What reading a map answers: Load and its pairs, or the refusal and no pairs.
-#[derive(Drop)]
+#[derive(Clone, Copy)]
 pub struct ParsedMap {
     pub answer: Answer,
     pub map: MemoryMap,

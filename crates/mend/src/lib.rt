@@ -1,4 +1,6 @@
 // Mending a checksum: where an image has no header, the lowest magic in it gets the checksum that makes it one.
+#![tactic(auto)]
+
 ghost use Rattle.std.specs.Prelude.{◌≡◌, ◌+◌, ◌^◌, ◌<◌};
 ghost use Rattle.header.specs.Header.{short_header};
 ghost use Rattle.mend.specs.Mend.{lowest_magic, right_checksum, change_at, mending_of, image_after, mend_number};
@@ -7,7 +9,7 @@ use address::ImageOffset;
 use header::{CHECKSUM, FLAGS, HEADER_MAGIC, SHORT_HEADER, STEP, Search};
 
 // A checksum that is mended: the header's offset, and the word before and after.
-#[derive(Drop)]
+#[derive(Clone, Copy)]
 pub struct Change {
     pub offset: ImageOffset,
     pub old: u32,
@@ -15,7 +17,7 @@ pub struct Change {
 }
 
 // What a mend answers.
-#[derive(Drop)]
+#[derive(Clone, Copy)]
 pub enum Mending {
     // the image has a header, and nothing changes
     HeaderFound,

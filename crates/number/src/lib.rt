@@ -1,4 +1,6 @@
 // Little-endian numbers in lent bytes.
+#![tactic(auto)]
+
 ghost use Rattle.std.specs.Prelude.{◌≡◌, ◌+◌, ◌*◌, ◌^◌, ◌≤◌, ◌<◌, get_or};
 ghost use Rattle.buffer.specs.Patched.{patched};
 ghost use Rattle.number.specs.Number.{number_at, number_bytes, word_bytes};

@@ -1,4 +1,6 @@
 // Placement: the items of a load, each at the lowest address at which it lies wholly in open memory that is not taken.
+#![tactic(auto)]
+
 ghost use Rattle.std.specs.Prelude.{◌≡◌, min};
 ghost use Rattle.placement.specs.Free.{max_spans};
 
@@ -15,7 +17,7 @@ pub const MAX_ITEMS: usize = 17;
 pub const MAX_SPANS: usize = 33;
 
 // Spans taken: the kernel's extents first, then the items placed.
-#[derive(Drop)]
+#[derive(Clone, Copy)]
 pub struct Spans {
     pub list: [Span; MAX_SPANS],
     pub count: usize,
@@ -35,7 +37,7 @@ impl Spans {
 }
 
 // What is to be placed: so many bytes, on a page boundary or on one of four bytes, that end at or below the ceiling.
-#[derive(Drop)]
+#[derive(Clone, Copy)]
 pub struct Item {
     pub length: u64,
     pub pages: bool,
@@ -43,21 +45,21 @@ pub struct Item {
 }
 
 // The items of a load: the modules, then the information block.
-#[derive(Drop)]
+#[derive(Clone, Copy)]
 pub struct Items {
     pub list: [Item; MAX_ITEMS],
     pub count: usize,
 }
 
 // Where an item goes.
-#[derive(Drop)]
+#[derive(Clone, Copy)]
 pub enum Place {
     At(PhysAddr),
     NoRoom,
 }
 
 // The spans taken with those of the items placed, and how many items were placed: all, or those before the first with no room.
-#[derive(Drop)]
+#[derive(Clone, Copy)]
 pub struct Placed {
     pub spans: Spans,
     pub done: usize,

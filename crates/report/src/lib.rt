@@ -1,5 +1,7 @@
 // The report on a plan: a line for each segment and module and one for the information block, or one for a refusal. Each
 // function writes its text from an offset on and gives the offset behind it.
+#![tactic(auto)]
+
 ghost use Rattle.std.specs.Prelude.{◌+◌, ◌*◌, ◌≤◌, ◌<◌, ◌^◌, length};
 ghost use Rattle.submission.specs.Format.{max_modules};
 ghost use Rattle.kernel.specs.Kernel.{max_segments};

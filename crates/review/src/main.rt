@@ -1,4 +1,6 @@
 // Reviews a submission from standard input: loads it on a fixed board and prints where everything lies, or the refusal.
+#![tactic(auto)]
+
 ghost use Rattle.std.specs.Prelude.{◌≡◌, ◌≤◌, length, take};
 ghost use Rattle.report.specs.Text.{Wrote};
 ghost use Rattle.report.specs.Report.{max_report};

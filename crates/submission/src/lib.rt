@@ -1,4 +1,6 @@
 // A submission in the KSB format: where its parts lie, and whether it keeps the format's rules.
+#![tactic(auto)]
+
 ghost use Rattle.std.specs.Prelude.{◌≡◌};
 ghost use Rattle.submission.specs.Layout.{bytes_of};
 ghost use Rattle.submission.specs.Parse.{no_layout};
@@ -26,14 +28,14 @@ pub const MAX_LINE: usize = 255;
 pub(crate) const MAX_STRING: u16 = 127;
 
 // A part of the submission, by its offset and length.
-#[derive(Drop)]
+#[derive(Clone, Copy)]
 pub struct Part {
     pub at: usize,
     pub len: usize,
 }
 
 // The parts of one module.
-#[derive(Drop)]
+#[derive(Clone, Copy)]
 pub struct Module {
     pub data: Part,
     pub string: Part,
@@ -41,7 +43,7 @@ pub struct Module {
 
 // The parts of a submission, the ceilings of its modules in MiB, and where the last part ends; past the last module the entries
 // are zero.
-#[derive(Drop)]
+#[derive(Clone, Copy)]
 pub struct Layout {
     pub image: Part,
     pub line: Part,
@@ -52,7 +54,7 @@ pub struct Layout {
 }
 
 // The answer for a submission, and its parts where it is accepted.
-#[derive(Drop)]
+#[derive(Clone, Copy)]
 pub struct ParsedSubmission {
     pub answer: Answer,
     pub layout: Layout,

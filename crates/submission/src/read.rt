@@ -8,7 +8,7 @@ ghost use Rattle.submission.specs.Format.{max_modules};
 use crate::{Layout, MAX_MODULES, Module, PREFIX, Part, TABLE_ENTRY};
 
 // What the table says of a module: the lengths of its data and its string, and its ceiling in MiB.
-#[derive(Drop)]
+#[derive(Clone, Copy)]
 pub(crate) struct TableEntry {
     pub bytes: u32,
     pub string: u16,

@@ -1,4 +1,6 @@
 // Which addresses are usable by a memory map. A pair is taken as it stands: the sum of base and length is never made where it could wrap.
+#![tactic(auto)]
+
 ghost use Rattle.std.specs.Prelude.{◌≡◌, ◌+◌};
 ghost use Rattle.edge.specs.Edge.{span_edge};
 ghost use Rattle.usable.specs.Usable.{covers, is_usable};

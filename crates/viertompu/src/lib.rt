@@ -1,4 +1,6 @@
 // The C interface: a load, and its plan as words; a mend is in `mending`.
+#![tactic(auto)]
+
 ghost use Rattle.std.specs.Prelude.{◌≡◌, length};
 ghost use Rattle.buffer.specs.Patched.{patched};
 ghost use Rattle.answer.specs.Answer.{number_of};
