@@ -5,7 +5,7 @@
 use Rattle.std.specs.Prelude.{◌≡◌, true, false, ◌↔◌, ℕ, ◌≤◌, ◌<◌, max, leb, ltb}
 use Rattle.std.proofs.Common.{sym, ◌∙◌, arith, lt-ltb, ltb-true, le-leb, leb-true}
 use Rattle.std.proofs.lemmas.Bool.{false≢true}
-use Rattle.laws.specs.TestLaws.{and_left, and_right}
+use Rattle.laws.proofs.TestLaws.{and_left, and_right}
 use Rattle.address.specs.declared.Span.{Span}
 use Rattle.address.specs.Address.{inside}
 use Rattle.address.specs.Span.{overlap, Holds}

@@ -18,8 +18,8 @@ use Rattle.std.proofs.Math.Logic.{⊎_elim}
 use borrow.Author.Tests.{eqb-true, eq-eqb, not-true}
 use Rattle.std.proofs.Math.Dec.{eqb}
 use Rattle.laws.specs.Checks.{Check, first_of, passes, ◌gives◌}
-use Rattle.laws.specs.CheckLaws.{passes_on, and_both}
-use Rattle.laws.specs.TestLaws.{true_or_false, and_left, and_right}
+use Rattle.laws.proofs.CheckLaws.{passes_on, and_both}
+use Rattle.laws.proofs.TestLaws.{true_or_false, and_left, and_right}
 use Rattle.answer.specs.Answer.{number_of, is_load, or_else}
 use Rattle.answer.specs.declared.Answer.{Answer}
 use Rattle.answer.specs.declared.Answer.TheVariants.{Load}

@@ -14,7 +14,7 @@ use mathlib.Core.List.{List, [], ◌∷◌, ◌++◌, append_assoc, map}
 use native.Mathlib.Omega.{arith}
 use Rattle.std.proofs.Math.ListN.{length, length-append, length-map, get_or-append, get_or-map}
 use Rattle.std.proofs.Math.Seq.{drop-nil, drop_at, drop-append-add}
-use Rattle.laws.specs.TableLaws.{replicate_at}
+use Rattle.laws.proofs.TableLaws.{replicate_at}
 use Rattle.buffer.specs.Patched.{zeros}
 use Rattle.number.specs.Number.{number_at, word_bytes}
 use Rattle.number.specs.NumberLaws.{length_word_bytes, word_at}

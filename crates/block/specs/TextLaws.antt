@@ -11,7 +11,7 @@ use Rattle.std.specs.Prelude.{◌≡◌, refl, List, [], ◌∷◌, ◌++◌, ma
 use Rattle.std.proofs.Math.Path.{ap}
 use Rattle.std.proofs.Common.{append_assoc, append-nil, ⊎_elim, add-zero, eq-or-lt_of_le, le_of_suc-le-suc, add-one, arith, length-append}
 use Rattle.laws.specs.Table.{listed}
-use Rattle.laws.specs.TableLaws.{length_listed}
+use Rattle.laws.proofs.TableLaws.{length_listed}
 use Rattle.submission.specs.declared.Layout.{Layout}
 use Rattle.submission.specs.Layout.{module_no}
 use Rattle.block.specs.Block.{ModuleEntry, text_of, entry_words, text_bytes, texts_size, address_of, line_flags, flags_of, entries, texts, strings_offset, block_length, string_lengths}

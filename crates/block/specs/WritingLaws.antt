@@ -11,7 +11,7 @@ use Rattle.std.proofs.Common.{ap, ◌∙◌, suc-mul, arith}
 use Prim.Native.Nat.{ℕ, zero, suc, ◌+◌, ◌*◌, ◌-◌, ◌^◌, ◌≤◌, ◌<◌}
 use Rattle.std.proofs.Math.ListN.{length-append}
 use Rattle.laws.specs.Table.{listed}
-use Rattle.laws.specs.TableLaws.{length_listed, listed_at, listed_same, map_listed}
+use Rattle.laws.proofs.TableLaws.{length_listed, listed_at, listed_same, map_listed}
 use Rattle.number.specs.Number.{word_bytes}
 use Rattle.address.specs.declared.Span.{Span}
 use Rattle.submission.specs.declared.Layout.{Layout}

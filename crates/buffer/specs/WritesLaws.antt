@@ -7,7 +7,7 @@
 -- Assumes nothing.
 use Rattle.std.specs.Prelude.{◌≡◌, refl, List, [], ◌∷◌, ◌++◌, ℕ, zero, suc, ◌+◌, ◌-◌, ◌≤◌, ◌<◌, length, get_or}
 use Rattle.std.proofs.Common.{ap, ◌∙◌, ⊎_elim, arith}
-use Rattle.laws.specs.TestLaws.{lt_or_le}
+use Rattle.laws.proofs.TestLaws.{lt_or_le}
 use Rattle.buffer.specs.PatchedLaws.{length-patched, get_or_before, get_or_inside, get_or_behind}
 use Rattle.buffer.specs.Writes.{Write, written}
 use Rattle.buffer.specs.Patched.{patched}

@@ -10,9 +10,9 @@ use Rattle.std.proofs.Common.{◌∙◌, ⊎_elim, arith}
 use Rattle.std.proofs.Math.Bool.{true, and-false}
 use mathlib.Core.List.{List, [], ◌∷◌}
 use borrow.Author.Tests.{ltb-false, not-true}
-use Rattle.laws.specs.TestLaws.{true_or_false, or_none_left, or_none_right, and_left, lt_or_le}
+use Rattle.laws.proofs.TestLaws.{true_or_false, or_none_left, or_none_right, and_left, lt_or_le}
 use Rattle.laws.specs.Checks.{passes}
-use Rattle.laws.specs.CheckLaws.{passes_append}
+use Rattle.laws.proofs.CheckLaws.{passes_append}
 use Rattle.answer.specs.ChainLaws.{refuses}
 use Rattle.submission.specs.Scan.{has_zero}
 use Rattle.submission.specs.ScanLaws.{no_zero, zero_free}

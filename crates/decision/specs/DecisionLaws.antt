@@ -43,7 +43,7 @@ use Rattle.memory_map.specs.Parse.{parsed_map}
 use Rattle.memory_map.specs.PairsLaws.{map_refuses, good_counted, load_good, parsed_good}
 use Rattle.board.specs.declared.Board.{Board}
 use Rattle.board.specs.Window.{window_checks, window_span}
-use Rattle.board.specs.WindowLaws.{window_refuses, window_fits}
+use Rattle.board.proofs.WindowLaws.{window_refuses, window_fits}
 use Rattle.block.specs.Block.{string_lengths, block_length}
 use Rattle.block.specs.WritingLaws.{block_bound}
 use Rattle.decision.specs.Lent.{Lent}

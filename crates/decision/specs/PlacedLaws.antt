@@ -7,7 +7,7 @@
 -- Assumes nothing.
 use Rattle.std.specs.Prelude.{ℕ, ◌+◌, ◌≤◌, ◌<◌, ◌^◌, length}
 use Rattle.std.proofs.Common.{arith}
-use Rattle.laws.specs.TableLaws.{length_table}
+use Rattle.laws.proofs.TableLaws.{length_table}
 use Rattle.address.specs.Address.{top}
 use Rattle.address.specs.Span.{no_span, span_no}
 use Rattle.submission.specs.declared.Layout.{Layout}
@@ -17,13 +17,13 @@ use Rattle.kernel.specs.declared.Kernel.{Kernel}
 use Rattle.kernel.specs.Kernel.{max_segments, extent_no}
 use Rattle.board.specs.declared.Board.{Board}
 use Rattle.board.specs.Open.{is_open}
-use Rattle.board.specs.OpenLaws.{open_below}
+use Rattle.board.proofs.OpenLaws.{open_below}
 use Rattle.placement.specs.declared.Item.{Item}
 use Rattle.placement.specs.Free.{max_spans}
 use Rattle.placement.specs.Order.{item_no}
 use Rattle.placement.specs.Ready.{Ready}
 use Rattle.placement.specs.InOrder.{InOrder}
-use Rattle.placement.specs.PlacingLaws.{board_in_order}
+use Rattle.placement.proofs.PlacingLaws.{board_in_order}
 use Rattle.items.specs.LoadItems.{extents_of, items_of}
 use Rattle.items.specs.LoadItemsLaws.{each_item}
 use Rattle.decision.specs.Decided.{placed_by}

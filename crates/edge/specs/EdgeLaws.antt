@@ -14,7 +14,7 @@ use native.Mathlib.Omega.{arith}
 use Rattle.std.proofs.Math.Numerals.{add-one}
 use Rattle.std.proofs.lemmas.Bool.{lt-leb}
 use borrow.Author.Count.{below_more}
-use Rattle.laws.specs.TestLaws.{true_or_false, lt_or_le}
+use Rattle.laws.proofs.TestLaws.{true_or_false, lt_or_le}
 use Rattle.address.specs.Address.{inside}
 use Rattle.edge.specs.Edge.{nearest, span_edge, edge_up_to}
 

@@ -4,7 +4,7 @@
 -- Assumes nothing.
 use Rattle.std.specs.Prelude.{◌≡◌, Bool, true, ℕ, ◌≤◌, ◌<◌}
 use Rattle.std.proofs.Common.{◌∙◌, ⊎_elim, arith}
-use Rattle.laws.specs.TestLaws.{lt_or_le}
+use Rattle.laws.proofs.TestLaws.{lt_or_le}
 use Rattle.edge.specs.EdgeLaws.{Edge}
 
 pub record AllPass (f : ℕ → Bool) (a x : ℕ) : Type 0 where

@@ -12,7 +12,7 @@ use native.Mathlib.Omega.{arith}
 use lib.ListN.{length, length-append, set, replicate}
 use Rattle.laws.specs.Passing.{passing}
 use Rattle.laws.specs.Tests.{any}
-use Rattle.laws.specs.TestLaws.{any_more}
+use Rattle.laws.proofs.TestLaws.{any_more}
 use Rattle.kernel.specs.declared.Segment.{Segment}
 use Rattle.kernel.specs.declared.FoundHeader.{FoundHeader}
 use Rattle.kernel.specs.Kernel.{max_segments, no_segment, places_of, kernel_with}

@@ -13,10 +13,10 @@ use Rattle.std.proofs.Math.Path.{refl}
 use Rattle.std.proofs.Common.{sym, ap, ◌∙◌, ⊎_elim, arith, leb-true, le-leb, eqb-true, eq-eqb, ne_eqb}
 use Rattle.std.proofs.lemmas.Bool.{false≢true, eqb-false, not-false}
 use Rattle.laws.specs.Passing.{passing}
-use Rattle.laws.specs.PassingLaws.{passing_most, passing_at, passing_rising, passing_every}
+use Rattle.laws.proofs.PassingLaws.{passing_most, passing_at, passing_rising, passing_every}
 use Rattle.laws.specs.Tests.{any}
 use Rattle.laws.specs.Checks.{first_of, ◌gives◌}
-use Rattle.laws.specs.TestLaws.{true_or_false, lt_or_le, and_left, and_right, and_is, not_is, eqb_is, or_none_left, or_none_right, none_is}
+use Rattle.laws.proofs.TestLaws.{true_or_false, lt_or_le, and_left, and_right, and_is, not_is, eqb_is, or_none_left, or_none_right, none_is}
 use Rattle.address.specs.Span.{Holds}
 use Rattle.answer.specs.declared.Answer.TheVariants.{Load, BadElf, BadProgramHeader, SegmentsOverlap}
 use Rattle.answer.specs.ChainLaws.{check_passed}

@@ -8,7 +8,7 @@ use Rattle.std.proofs.lemmas.List.{map-append}
 use Rattle.std.proofs.Common.{arith}
 use Rattle.std.proofs.Math.ListN.{length-map}
 use Rattle.laws.specs.Passing.{passing}
-use Rattle.laws.specs.PassingLaws.{passing_taken, passing_left, passing_most}
+use Rattle.laws.proofs.PassingLaws.{passing_taken, passing_left, passing_most}
 use Rattle.kernel.specs.declared.Segment.{Segment}
 use Rattle.kernel.specs.Kernel.{no_segment}
 use Rattle.elf.specs.Segments.{is_segment_no, table_segment, segments_among}

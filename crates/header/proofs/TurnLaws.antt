@@ -7,15 +7,15 @@
 -- Assumes nothing.
 use Rattle.std.proofs.Common.{◌≡◌, ℕ, ◌+◌, ◌*◌, ◌/◌, ◌%◌, ◌<◌, ◌≤◌, true, false, eqb, List, [], ◌∷◌, length, drop, sym, refl, ap, ◌∙◌, arith, length-append, length-drop}
 use Rattle.laws.specs.Passing.{passing}
-use Rattle.laws.specs.PassingLaws.{passing_taken, passing_left, passing_most, passing_past}
-use Rattle.laws.specs.CheckLaws.{and_both, and_fails_left, and_fails_right}
+use Rattle.laws.proofs.PassingLaws.{passing_taken, passing_left, passing_most, passing_past}
+use Rattle.laws.proofs.CheckLaws.{and_both, and_fails_left, and_fails_right}
 use Rattle.number.specs.Number.{number_at}
 use Rattle.header.specs.declared.Search.TheVariants.{At, Nothing}
 use Rattle.header.specs.declared.Searched.{Searched}
 use Rattle.header.specs.Header.{header_magic, search_limit, short_header, sum_is_zero, words, is_header, header_from, header}
 use Rattle.header.specs.FalseHeader.{is_false_header_at, is_false_place, false_headers, searched}
-use Rattle.header.specs.FalseHeaderLaws.{false_here, no_magic, no_room}
-use Rattle.header.specs.WalkLaws.{found_at, passed_at, none_left, whole_image}
+use Rattle.header.proofs.FalseHeaderLaws.{false_here, no_magic, no_room}
+use Rattle.header.proofs.WalkLaws.{found_at, passed_at, none_left, whole_image}
 
 -- how many of the first n places have a false header
 abbrev false_among : List ℕ → ℕ → ℕ

@@ -16,7 +16,7 @@ use native.Mathlib.Omega.{arith}
 use lib.Dec.{eqb}
 use lib.ListN.{length}
 use Rattle.laws.specs.Checks.{first_of}
-use Rattle.laws.specs.CheckLaws.{chain, not_to_true, not_to_false}
+use Rattle.laws.proofs.CheckLaws.{chain, not_to_true, not_to_false}
 use Rattle.address.specs.declared.ImageOffset.{ImageOffset}
 use Rattle.answer.specs.Answer.{is_load, or_else}
 use Rattle.answer.specs.ChainLaws.{chain_append, or_else_first, or_else_second}

@@ -16,8 +16,8 @@ use Rattle.std.proofs.Math.Bool.{true}
 use Rattle.std.proofs.lemmas.Bool.{false≢true, eqb-false, not-true}
 use native.Mathlib.Omega.{arith}
 use Rattle.laws.specs.Checks.{first_of, only_if}
-use Rattle.laws.specs.CheckLaws.{only_true, only_false, only_behind, not_to_true, not_to_false}
-use Rattle.laws.specs.TestLaws.{true_or_false, lt_or_le, or_none_left, or_none_right}
+use Rattle.laws.proofs.CheckLaws.{only_true, only_false, only_behind, not_to_true, not_to_false}
+use Rattle.laws.proofs.TestLaws.{true_or_false, lt_or_le, or_none_left, or_none_right}
 use Rattle.number.specs.Number.{number_at}
 use Rattle.address.specs.Span.{Holds}
 use Rattle.answer.specs.Answer.{is_load}
@@ -27,7 +27,7 @@ use Rattle.header.specs.declared.Search.{Search}
 use Rattle.header.specs.declared.Search.TheVariants.{At, Nothing}
 use Rattle.header.specs.Header.{header_magic, search_limit, short_header, header}
 use Rattle.header.specs.FalseHeader.{false_headers}
-use Rattle.header.specs.HeaderLaws.{header_lowest}
+use Rattle.header.proofs.HeaderLaws.{header_lowest}
 use Rattle.kernel.specs.declared.Kernel.{Kernel}
 use Rattle.kernel.specs.Kernel.{max_segments, no_segment, kernel_with, segment_no, extent_no}
 use Rattle.kernel.specs.KernelLaws.{kernel_past, GoodSegment}

@@ -6,7 +6,7 @@
 -- Assumes nothing.
 use Rattle.std.specs.Prelude.{◌≡◌, false, ℕ, ◌+◌, ◌≤◌, ◌<◌, ltb}
 use Rattle.std.proofs.Common.{arith, ltb-false, eq-eqb}
-use Rattle.laws.specs.TestLaws.{or_none_left, or_none_right}
+use Rattle.laws.proofs.TestLaws.{or_none_left, or_none_right}
 use Rattle.header.specs.Header.{search_limit}
 use Rattle.image.specs.declared.load.AddressFields.{AddressFields}
 use Rattle.image.specs.Load.{full_header, load_offset, load_length}

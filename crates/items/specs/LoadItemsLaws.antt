@@ -4,8 +4,8 @@
 -- Assumes nothing.
 use Rattle.std.specs.Prelude.{◌≡◌, Bool, ℕ, ◌+◌, ◌≤◌, ◌<◌}
 use Rattle.std.proofs.Common.{⊎_elim, arith, lt-ltb, le-ltb}
-use Rattle.laws.specs.TestLaws.{lt_or_le}
-use Rattle.laws.specs.TableLaws.{table_at}
+use Rattle.laws.proofs.TestLaws.{lt_or_le}
+use Rattle.laws.proofs.TableLaws.{table_at}
 use Rattle.submission.specs.declared.Layout.{Layout}
 use Rattle.submission.specs.Layout.{module_no, ceiling_no}
 use Rattle.placement.specs.declared.Item.{Item}

@@ -6,8 +6,8 @@ use Rattle.std.specs.Prelude.{◌≡◌, true, false, ◌↔◌, ℕ, ◌≤◌,
 use Rattle.std.proofs.Math.Logic.{⊎_elim}
 use Rattle.std.proofs.Common.{arith}
 use Rattle.std.proofs.lemmas.Bool.{not-false, not-true}
-use Rattle.laws.specs.TestLaws.{true_or_false, any_at, any_none, none_any, none_is}
-use Rattle.laws.specs.CheckLaws.{not_to_true}
+use Rattle.laws.proofs.TestLaws.{true_or_false, any_at, any_none, none_any, none_is}
+use Rattle.laws.proofs.CheckLaws.{not_to_true}
 use Rattle.address.specs.InsideLaws.{inside_is, overlap_is, overlap_none}
 use Rattle.address.specs.Span.{Holds, overlap}
 use Rattle.kernel.specs.declared.Kernel.{Kernel}

@@ -7,7 +7,7 @@
 use Rattle.std.specs.Prelude.{◌≡◌, refl, List, [], ◌∷◌, ◌++◌, ℕ, zero, suc, ◌+◌, ◌-◌, ◌≤◌, ◌<◌, length, get_or, set, replicate}
 use Rattle.std.proofs.Common.{◌∙◌, append_assoc, arith, length-append}
 use Rattle.std.proofs.lemmas.List.{set_at}
-use Rattle.laws.specs.TableLaws.{replicate_at}
+use Rattle.laws.proofs.TableLaws.{replicate_at}
 use Rattle.address.specs.declared.PhysAddr.{PhysAddr}
 use Rattle.kernel.specs.declared.Segment.{Segment}
 use Rattle.kernel.specs.declared.FoundHeader.{FoundHeader}

@@ -10,8 +10,8 @@ use Rattle.std.specs.Prelude.{◌≡◌, true, ℕ, ◌+◌, ◌-◌, ◌≤◌,
 use Rattle.std.proofs.Math.Path.{refl, ap}
 use Rattle.std.proofs.Common.{sym, ◌∙◌, arith}
 use Rattle.std.proofs.Math.Logic.{⊎_elim}
-use Rattle.laws.specs.TestLaws.{all_elim, lt_or_le}
-use Rattle.laws.specs.TableLaws.{table_at, table_past}
+use Rattle.laws.proofs.TestLaws.{all_elim, lt_or_le}
+use Rattle.laws.proofs.TableLaws.{table_at, table_past}
 use Rattle.address.specs.Address.{top}
 use Rattle.address.specs.Span.{no_span, span_no, Holds}
 use Rattle.address.specs.declared.Span.{Span}
@@ -22,7 +22,7 @@ use Rattle.submission.specs.Format.{max_modules}
 use Rattle.image.specs.JudgedLaws.{good_kernel}
 use Rattle.kernel.specs.Kernel.{extent_no}
 use Rattle.board.specs.Open.{is_open}
-use Rattle.board.specs.OpenLaws.{open_is}
+use Rattle.board.proofs.OpenLaws.{open_is}
 use Rattle.placement.specs.declared.Item.{Item}
 use Rattle.placement.specs.Free.{max_spans}
 use Rattle.placement.specs.Order.{item_no}

@@ -24,10 +24,10 @@ use borrow.Author.Tests.{lt-ltb, le-ltb, ltb-true, ltb-false, eqb-false}
 use Rattle.std.proofs.Math.Dec.{ltb, eqb}
 use Rattle.std.proofs.Math.ListN.{length}
 use Rattle.laws.specs.Tests.{any}
-use Rattle.laws.specs.TestLaws.{Run, run_says, any_here, any_none, none_any, or_cases, or_none_left, or_none_right, lt_or_le, true_or_false}
-use Rattle.laws.specs.TableLaws.{length_table, table_at, table_past, replicate_at}
+use Rattle.laws.proofs.TestLaws.{Run, run_says, any_here, any_none, none_any, or_cases, or_none_left, or_none_right, lt_or_le, true_or_false}
+use Rattle.laws.proofs.TableLaws.{length_table, table_at, table_past, replicate_at}
 use Rattle.laws.specs.Checks.{first_of}
-use Rattle.laws.specs.CheckLaws.{chain}
+use Rattle.laws.proofs.CheckLaws.{chain}
 use Rattle.number.specs.NumberLaws.{Bytes, bytes_drop, number_bound}
 use Rattle.answer.specs.declared.Answer.TheVariants.{Load, BadMemoryMap}
 use Rattle.answer.specs.ChainLaws.{refuses, check_passed}

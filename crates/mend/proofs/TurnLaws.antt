@@ -4,14 +4,14 @@
 --     tried_found, tried_all     what the search answers
 -- Assumes nothing.
 use Rattle.std.proofs.Common.{◌≡◌, ℕ, ◌+◌, ◌*◌, ◌/◌, ◌%◌, ◌<◌, ◌≤◌, min, true, false, eqb, List, length, refl, ap, ◌∙◌, ⊎_elim, arith, eqb-true}
-use Rattle.laws.specs.TestLaws.{lt_or_le}
+use Rattle.laws.proofs.TestLaws.{lt_or_le}
 use Rattle.number.specs.Number.{number_at}
 use Rattle.header.specs.declared.Search.TheVariants.{At, Nothing}
 use Rattle.header.specs.Header.{header_magic, search_limit, short_header}
 use Rattle.header.specs.HeaderAt.{MagicAt}
-use Rattle.header.specs.RoomLaws.{past_end, past_limit}
+use Rattle.header.proofs.RoomLaws.{past_end, past_limit}
 use Rattle.mend.specs.Mend.{is_magic_at, is_magic_place, lowest_magic}
-use Rattle.mend.specs.MagicLaws.{magic_is, no_magic, without_room, magic_found, magic_none}
+use Rattle.mend.proofs.MagicLaws.{magic_is, no_magic, without_room, magic_found, magic_none}
 
 -- no place before the offset `at` has the magic; the searched part ends at `end`
 pub record Tried (image : List ℕ) (end at : ℕ) : Type 0 where

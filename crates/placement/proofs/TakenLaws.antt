@@ -8,7 +8,7 @@ use native.Mathlib.Omega.{arith}
 use borrow.Author.Tests.{le-ltb}
 use lib.ListN.{length, get_or-eq_default}
 use Rattle.laws.specs.Tests.{any}
-use Rattle.laws.specs.TestLaws.{any_past}
+use Rattle.laws.proofs.TestLaws.{any_past}
 use Rattle.address.specs.Address.{inside}
 use Rattle.address.specs.Span.{no_span, span_no}
 use Rattle.address.specs.declared.Span.{Span}

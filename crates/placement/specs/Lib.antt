@@ -2,14 +2,7 @@
 pub mod Placing
 pub mod InOrder
 pub mod Free
-pub mod FreeLaws
 pub mod FreeEdge
-pub mod FreeEdgeLaws
 pub mod Lowest
-pub mod LowestLaws
 pub mod Order
-pub mod OrderLaws
-pub mod PlacingLaws
 pub mod Ready
-pub mod WalkLaws
-pub mod StepLaws

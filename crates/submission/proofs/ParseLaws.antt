@@ -11,7 +11,7 @@ use borrow.Author.Tests.{le-leb, eq-eqb}
 use lib.ListN.{length}
 use Rattle.laws.specs.Tests.{all_from}
 use Rattle.laws.specs.Checks.{first_of, passes}
-use Rattle.laws.specs.CheckLaws.{chain}
+use Rattle.laws.proofs.CheckLaws.{chain}
 use Rattle.answer.specs.declared.Answer.TheVariants.{Load, NotASubmission, BadSubmission}
 use Rattle.submission.specs.Scan.{has_zero}
 use Rattle.submission.specs.Format.{module_count, line_length, parts_end, max_modules}

@@ -10,8 +10,8 @@ use Prim.Native.Nat.{ℕ, ◌+◌, ◌<◌}
 use native.Mathlib.Nat.{zero-add}
 use lib.ListN.{set}
 use Rattle.laws.specs.Tests.{all_from}
-use Rattle.laws.specs.TestLaws.{all_more}
-use Rattle.laws.specs.TableLaws.{table_more}
+use Rattle.laws.proofs.TestLaws.{all_more}
+use Rattle.laws.proofs.TableLaws.{table_more}
 use Rattle.submission.specs.Format.{data_start, ceiling, max_modules}
 use Rattle.submission.specs.Layout.{table_entry, module_from, module_of, no_module, module_table, ceiling_table}
 use Rattle.submission.specs.FormatLaws.{data_behind_string}

@@ -10,7 +10,7 @@ use Rattle.std.specs.Prelude.{◌≡◌, List, ℕ, zero, suc, ◌+◌, ◌≤�
 use Rattle.std.proofs.Math.Path.{refl}
 use Rattle.std.proofs.Common.{ap, ⊎_elim, eq-or-lt_of_le, le_of_suc-le-suc, arith, length-take, length-drop, get_or-take, get_or-drop}
 use Rattle.std.proofs.Math.Numerals.{add-one}
-use Rattle.laws.specs.TableLaws.{length_table, table_at, table_past}
+use Rattle.laws.proofs.TableLaws.{length_table, table_at, table_past}
 use Rattle.submission.specs.Format.{module_count, image_length, line_length, data_length, string_length, image_start, line_start, data_start, string_start, parts_end, ceiling, max_modules}
 use Rattle.submission.specs.Layout.{line_part, module_of, no_module, layout_of, module_no, ceiling_no, bytes_of}
 use Rattle.submission.specs.declared.Part.{Part}

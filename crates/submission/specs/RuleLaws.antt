@@ -16,7 +16,7 @@ use native.Mathlib.Omega.{arith}
 use borrow.Author.Tests.{leb-true, le-leb, eqb-true, eq-eqb, not-true, not-false}
 use Rattle.std.proofs.Math.Dec.{leb, eqb}
 use Rattle.laws.specs.Tests.{all_from}
-use Rattle.laws.specs.TestLaws.{true_or_false, and_left, and_right, all_intro, all_elim}
+use Rattle.laws.proofs.TestLaws.{true_or_false, and_left, and_right, all_intro, all_elim}
 use Rattle.laws.specs.Checks.{passes}
 use Rattle.number.specs.NumberLaws.{Bytes, bytes_drop, number_bound}
 use Rattle.answer.specs.ChainLaws.{refuses}

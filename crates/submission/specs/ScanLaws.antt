@@ -5,7 +5,7 @@
 use Rattle.std.specs.Prelude.{◌≡◌, refl, true, false, List, [], ◌∷◌, ◌↔◌, ℕ, zero, suc, ◌<◌, eqb, length, get_or}
 use Rattle.std.proofs.lemmas.Bool.{false≢true, eqb-false}
 use Rattle.std.proofs.Common.{arith, eqb-true, eq-eqb, ne_eqb}
-use Rattle.laws.specs.TestLaws.{or_none_left, or_none_right, and_left, and_right}
+use Rattle.laws.proofs.TestLaws.{or_none_left, or_none_right, and_left, and_right}
 use Rattle.submission.specs.Scan.{has_zero, same_bytes}
 
 pub no_zero : (s : List ℕ) → has_zero s ≡ false → (i : ℕ) → i < length s → get_or s i 0 ≡ 0 → ⊥

@@ -12,7 +12,7 @@ use borrow.Author.Tests.{lt-ltb, le-ltb, eq-eqb, ne_eqb}
 use lib.Dec.{ltb}
 use lib.ListN.{length, get_or-eq_default}
 use Rattle.laws.specs.Tests.{any}
-use Rattle.laws.specs.TestLaws.{any_more, any_here, any_past}
+use Rattle.laws.proofs.TestLaws.{any_more, any_here, any_past}
 use Rattle.address.specs.Address.{inside}
 use Rattle.edge.specs.Edge.{nearest, edge_up_to}
 use Rattle.edge.specs.EdgeLaws.{edges_past}

@@ -1,7 +1,5 @@
 -- The definitions that the contracts of `usable` cite, and their laws.
 pub mod UsableAddress
 pub mod Usable
-pub mod UsableLaws
 pub mod MapEdge
-pub mod MapEdgeLaws
 pub mod Sizes

@@ -6,13 +6,13 @@ use Prim.Native.Nat.{ℕ, ◌-◌, ◌<◌}
 use native.Mathlib.Omega.{arith}
 use borrow.Author.Tests.{not-true, not-false}
 use borrow.Author.Rules.{rules}
-use Rattle.laws.specs.TestLaws.{all_intro, all_not}
+use Rattle.laws.proofs.TestLaws.{all_intro, all_not}
 use Rattle.edge.specs.PassLaws.{AllPass, pass_start, pass_on}
 use Rattle.board.specs.declared.Board.{Board}
 use Rattle.board.specs.Open.{is_open}
 use Rattle.board.specs.OpenEdge.{open_edge}
-use Rattle.board.specs.OpenLaws.{open_is}
-use Rattle.board.specs.OpenEdgeLaws.{open_edge_at}
+use Rattle.board.proofs.OpenLaws.{open_is}
+use Rattle.board.proofs.OpenEdgeLaws.{open_edge_at}
 use Rattle.board.proofs.all_open.Statement.{statement}
 use Rattle.board.proofs.all_open.Tie as tie
 

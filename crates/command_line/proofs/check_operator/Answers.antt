@@ -1,6 +1,6 @@
 -- `command_line::check_operator` meets its contract: its two tests are those of the one check.
 use Rattle.std.proofs.Common.{◌≡◌, true, false, sym, ◌∙◌}
-use Rattle.laws.specs.CheckLaws.{chain}
+use Rattle.laws.proofs.CheckLaws.{chain}
 use Rattle.submission.specs.Scan.{has_zero}
 use Rattle.command_line.specs.CommandLine.{operator_checks}
 use Rattle.command_line.proofs.check_operator.Goals as goal

@@ -1,7 +1,7 @@
 -- `elf::check_table` meets its contract: its tests are those of `table_checks`, in order.
 -- Assumes nothing.
 use borrow.Author.Rules.{rules}
-use Rattle.laws.specs.CheckLaws.{chain, told}
+use Rattle.laws.proofs.CheckLaws.{chain, told}
 use Rattle.elf.specs.Read.{table_checks}
 use Rattle.elf.proofs.check_table.Statement.{statement}
 use Rattle.elf.proofs.check_table.Tie as tie

@@ -8,7 +8,7 @@ use borrow.Author.Rules.{rules}
 use borrow.Author.Tests.{not-true, not-false}
 use lib.ListN.{length}
 use Rattle.laws.specs.Checks.{first_of}
-use Rattle.laws.specs.CheckLaws.{told}
+use Rattle.laws.proofs.CheckLaws.{told}
 use Rattle.laws.specs.Tests.{any}
 use Rattle.answer.specs.Answer.{or_else}
 use Rattle.answer.specs.declared.Answer.{Answer}

@@ -7,7 +7,7 @@ use Prim.Native.Nat.{◌-◌, ◌≤◌}
 use native.Mathlib.Omega.{arith}
 use borrow.Author.Rules.{rules}
 use Rattle.laws.specs.Tests.{any}
-use Rattle.laws.specs.TestLaws.{any-zero}
+use Rattle.laws.proofs.TestLaws.{any-zero}
 use Rattle.elf.specs.Checks.{bad_no}
 use Rattle.elf.proofs.TurnLaws.{Gathered, gathered_none, gathered_one, gathered_on, bad_more, gathered_all}
 use Rattle.elf.proofs.read_table.Statement.{statement}

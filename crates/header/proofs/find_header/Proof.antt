@@ -1,7 +1,7 @@
 -- `header::find_header` meets its contract: the searched part has the headers and false headers of the image.
 -- Assumes nothing.
 use Rattle.std.proofs.Common.{sym, ◌∙◌, arith, length-take-le, rules}
-use Rattle.header.specs.FalseHeaderLaws.{searched_cut}
+use Rattle.header.proofs.FalseHeaderLaws.{searched_cut}
 use Rattle.header.proofs.find_header.Statement.{statement}
 use Rattle.header.proofs.find_header.Tie as tie
 

@@ -1,7 +1,7 @@
 -- `header::first_header` meets its contract. The loop's invariant: the search has passed the places before the offset.
 -- Assumes nothing.
 use Rattle.std.proofs.Common.{◌-◌, length, ⊎_elim, arith, rules}
-use Rattle.laws.specs.CheckLaws.{told}
+use Rattle.laws.proofs.CheckLaws.{told}
 use Rattle.header.proofs.TurnLaws.{Passed, passed_start, passed_few, passed_other, passed_false, passed_found, passed_all}
 use Rattle.header.proofs.first_header.Statement.{statement}
 use Rattle.header.proofs.first_header.Tie as tie

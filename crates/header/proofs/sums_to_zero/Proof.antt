@@ -1,7 +1,7 @@
 -- `header::sums_to_zero` meets its contract: the three words are added one by one.
 -- Assumes nothing.
 use Rattle.std.proofs.Common.{rules}
-use Rattle.header.specs.WalkLaws.{by_sum}
+use Rattle.header.proofs.WalkLaws.{by_sum}
 use Rattle.header.proofs.sums_to_zero.Statement.{statement}
 use Rattle.header.proofs.sums_to_zero.Tie as tie
 

@@ -4,7 +4,7 @@ use mathlib.Core.Path.{◌∙◌}
 use native.Mathlib.Omega.{arith}
 use borrow.Author.Rules.{rules}
 use lib.ListN.{length}
-use Rattle.laws.specs.CheckLaws.{told}
+use Rattle.laws.proofs.CheckLaws.{told}
 use Rattle.image.specs.LoadLaws.{not-cut_off}
 use Rattle.image.proofs.RefusalLaws.{WholeHeader, cut_off_lem, before_image_lem, load_inside, load_left}
 use Rattle.image.proofs.judge_fields.Statement.{statement}

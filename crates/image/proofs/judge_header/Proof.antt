@@ -6,8 +6,8 @@ use native.Mathlib.Omega.{arith}
 use borrow.Author.Rules.{rules}
 use lib.ListN.{length}
 use Rattle.header.specs.Header.{search_limit, short_header}
-use Rattle.header.specs.HeaderLaws.{header_lowest}
-use Rattle.laws.specs.CheckLaws.{told}
+use Rattle.header.proofs.HeaderLaws.{header_lowest}
+use Rattle.laws.proofs.CheckLaws.{told}
 use Rattle.image.proofs.RefusalLaws.{FlagsFound, unknown_request_lem, undefined_bits_lem, unknown_kind_lem, kind_judged}
 use Rattle.image.proofs.judge_header.Statement.{statement}
 use Rattle.image.proofs.judge_header.Tie as tie

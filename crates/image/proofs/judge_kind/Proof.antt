@@ -2,7 +2,7 @@
 -- Assumes nothing.
 use mathlib.Core.Path.{◌∙◌}
 use borrow.Author.Rules.{rules}
-use Rattle.laws.specs.CheckLaws.{told}
+use Rattle.laws.proofs.CheckLaws.{told}
 use Rattle.image.proofs.RefusalLaws.{FlagsFound, found_is, by_elf, by_address}
 use Rattle.image.proofs.judge_kind.Statement.{statement}
 use Rattle.image.proofs.judge_kind.Tie as tie

@@ -6,7 +6,7 @@ use native.Mathlib.Omega.{arith}
 use borrow.Author.Rules.{rules}
 use lib.ListN.{replicate}
 use Rattle.laws.specs.Table.{table}
-use Rattle.laws.specs.TableLaws.{table_none, table_more}
+use Rattle.laws.proofs.TableLaws.{table_none, table_more}
 use Rattle.address.specs.Span.{no_span}
 use Rattle.kernel.specs.Kernel.{extent_no}
 use Rattle.placement.specs.Free.{max_spans}

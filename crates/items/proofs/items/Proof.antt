@@ -5,7 +5,7 @@ use Prim.Native.Nat.{◌+◌, ◌-◌, ◌≤◌}
 use native.Mathlib.Omega.{arith}
 use borrow.Author.Rules.{rules}
 use Rattle.laws.specs.Table.{table}
-use Rattle.laws.specs.TableLaws.{table_none, table_more}
+use Rattle.laws.proofs.TableLaws.{table_none, table_more}
 use Rattle.placement.specs.Order.{max_items, no_item}
 use Rattle.items.specs.LoadItems.{load_item, items_of}
 use Rattle.items.proofs.items.Statement.{statement}

@@ -6,7 +6,7 @@ use native.Mathlib.Omega.{arith}
 use borrow.Author.Rules.{rules}
 use lib.ListN.{replicate}
 use Rattle.laws.specs.Table.{table}
-use Rattle.laws.specs.TableLaws.{table_none, table_more}
+use Rattle.laws.proofs.TableLaws.{table_none, table_more}
 use Rattle.address.specs.Span.{no_span, span_no}
 use Rattle.submission.specs.Format.{max_modules}
 use Rattle.items.specs.LoadItems.{module_spans}

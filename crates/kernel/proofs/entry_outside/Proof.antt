@@ -6,7 +6,7 @@ use Prim.Native.Nat.{ℕ, ◌-◌, ◌≤◌}
 use native.Mathlib.Omega.{arith}
 use borrow.Author.Rules.{rules}
 use Rattle.laws.specs.Tests.{any}
-use Rattle.laws.specs.TestLaws.{any-zero, any_here, any_none_more}
+use Rattle.laws.proofs.TestLaws.{any-zero, any_here, any_none_more}
 use Rattle.address.specs.Address.{inside}
 use Rattle.address.specs.declared.Span.{Span}
 use Rattle.kernel.specs.declared.Kernel.{Kernel}

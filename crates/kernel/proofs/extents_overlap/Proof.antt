@@ -6,7 +6,7 @@ use Prim.Native.Nat.{ℕ, ◌-◌, ◌≤◌, ◌<◌}
 use native.Mathlib.Omega.{arith}
 use borrow.Author.Count.{below_more}
 use borrow.Author.Rules.{rules}
-use Rattle.laws.specs.TestLaws.{any_here, any_none}
+use Rattle.laws.proofs.TestLaws.{any_here, any_none}
 use Rattle.kernel.specs.declared.Kernel.{Kernel}
 use Rattle.kernel.specs.Checks.{overlap_no, overlaps_earlier, extents_overlap}
 use Rattle.kernel.proofs.extents_overlap.Statement.{statement}

@@ -5,7 +5,7 @@ use mathlib.Core.Bool.{true, false}
 use borrow.Author.Rules.{rules}
 use borrow.Author.Tests.{not-true, not-false}
 use Rattle.laws.specs.Checks.{first_of}
-use Rattle.laws.specs.CheckLaws.{told}
+use Rattle.laws.proofs.CheckLaws.{told}
 use Rattle.answer.specs.Answer.{is_load}
 use Rattle.answer.specs.ChainLaws.{or_else_first, or_else_second}
 use Rattle.answer.specs.declared.Answer.{Answer}

@@ -7,7 +7,7 @@ use Prim.Native.Nat.{ℕ, ◌-◌, ◌≤◌, ◌<◌}
 use native.Mathlib.Nat.{eq-or-lt_of_le}
 use native.Mathlib.Omega.{arith}
 use borrow.Author.Rules.{rules}
-use Rattle.laws.specs.TestLaws.{any_here, any_none}
+use Rattle.laws.proofs.TestLaws.{any_here, any_none}
 use Rattle.address.specs.Span.{overlap}
 use Rattle.address.specs.declared.Span.{Span}
 use Rattle.kernel.specs.declared.Kernel.{Kernel}

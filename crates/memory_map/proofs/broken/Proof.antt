@@ -10,8 +10,8 @@ use borrow.Author.Tests.{lt-ltb, le-ltb}
 use borrow.Author.Rules.{rules}
 use lib.Dec.{ltb}
 use lib.ListN.{length}
-use Rattle.laws.specs.TestLaws.{lt_or_le}
-use Rattle.laws.specs.CheckLaws.{or_left, or_right}
+use Rattle.laws.proofs.TestLaws.{lt_or_le}
+use Rattle.laws.proofs.CheckLaws.{or_left, or_right}
 use Rattle.memory_map.specs.Pairs.{size_bytes, size_at, next_offset}
 use Rattle.memory_map.specs.Map.{min_pair_size, too_small, past_end}
 use Rattle.memory_map.proofs.broken.Statement.{statement}

@@ -9,7 +9,7 @@ use native.Mathlib.Omega.{arith}
 use borrow.Author.Rules.{rules}
 use lib.ListN.{length, set}
 use Rattle.laws.specs.Table.{listed, table}
-use Rattle.laws.specs.TableLaws.{table_more}
+use Rattle.laws.proofs.TableLaws.{table_more}
 use Rattle.answer.specs.declared.Answer.TheVariants.{Load}
 use Rattle.memory_map.specs.declared.Pair.{Pair}
 use Rattle.memory_map.specs.declared.MemoryMap.{MemoryMap}

@@ -3,7 +3,7 @@
 use Rattle.std.proofs.Common.{◌≡◌, sym, ap, ◌∙◌, arith, rules}
 use Rattle.header.specs.declared.Searched.{Searched}
 use Rattle.mend.specs.declared.Mending.TheVariants.{Mended}
-use Rattle.mend.specs.MendLaws.{magic_early, with_header, at_magic, nowhere}
+use Rattle.mend.proofs.MendLaws.{magic_early, with_header, at_magic, nowhere}
 use Rattle.mend.proofs.decide.Statement.{statement}
 use Rattle.mend.proofs.decide.Tie as tie
 

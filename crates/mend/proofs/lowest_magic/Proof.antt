@@ -1,7 +1,7 @@
 -- `mend::lowest_magic` meets its contract. The loop's invariant: no place before the offset has the magic.
 -- Assumes nothing.
 use Rattle.std.proofs.Common.{◌-◌, arith, rules}
-use Rattle.laws.specs.CheckLaws.{told}
+use Rattle.laws.proofs.CheckLaws.{told}
 use Rattle.mend.proofs.TurnLaws.{Tried, tried_start, tried_on, tried_found, tried_all}
 use Rattle.mend.proofs.lowest_magic.Statement.{statement}
 use Rattle.mend.proofs.lowest_magic.Tie as tie

@@ -1,8 +1,8 @@
 -- `mend::mend` meets its contract: what was decided is written, and nothing where nothing is to be mended.
 -- Assumes nothing.
 use Rattle.std.proofs.Common.{sym, ◌∙◌, arith, rules}
-use Rattle.mend.specs.MendLaws.{after_is}
-use Rattle.mend.specs.PromisesLaws.{change_early}
+use Rattle.mend.proofs.MendLaws.{after_is}
+use Rattle.mend.proofs.PromisesLaws.{change_early}
 use Rattle.mend.proofs.mend.Statement.{statement}
 use Rattle.mend.proofs.mend.Tie as tie
 

@@ -6,7 +6,7 @@ use Prim.Native.Nat.{◌-◌, ◌≤◌, ◌<◌}
 use native.Mathlib.Omega.{arith}
 use borrow.Author.Rules.{rules}
 use lib.ListN.{length, length-map}
-use Rattle.laws.specs.TestLaws.{any-zero}
+use Rattle.laws.proofs.TestLaws.{any-zero}
 use Rattle.memory_map.specs.Map.{max_pairs}
 use Rattle.usable.specs.Usable.{address_space}
 use Rattle.usable.proofs.ScanLaws.{Scanned, usable_covered, usable_missed, usable_barred, usable_above, usable_end}

@@ -7,7 +7,7 @@ use Prim.Native.Nat.{ℕ, ◌+◌, ◌-◌, ◌≤◌, ◌<◌}
 use native.Mathlib.Omega.{arith}
 use borrow.Author.Tests.{le-leb, lt-leb, lt-ltb, le-ltb}
 use lib.Dec.{ltb}
-use Rattle.laws.specs.TestLaws.{lt_or_le}
+use Rattle.laws.proofs.TestLaws.{lt_or_le}
 use Rattle.address.specs.Address.{inside}
 use Rattle.memory_map.specs.declared.Pair.{Pair}
 use Rattle.usable.specs.Usable.{covers}

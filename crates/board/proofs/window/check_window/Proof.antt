@@ -6,7 +6,7 @@ use native.Mathlib.Omega.{arith}
 use borrow.Author.Tests.{lt-ltb}
 use borrow.Author.Rules.{rules}
 use Rattle.laws.specs.Checks.{first_of}
-use Rattle.laws.specs.CheckLaws.{none, here, on}
+use Rattle.laws.proofs.CheckLaws.{none, here, on}
 use Rattle.address.specs.Address.{top}
 use Rattle.answer.specs.declared.Answer.TheVariants.{Load, WindowPastTop}
 use Rattle.board.specs.Window.{window_checks}

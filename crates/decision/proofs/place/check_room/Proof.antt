@@ -3,7 +3,7 @@
 use Prim.Native.Nat.{◌+◌, ◌<◌, ◌≤◌}
 use native.Mathlib.Omega.{arith}
 use borrow.Author.Rules.{rules}
-use Rattle.laws.specs.CheckLaws.{chain}
+use Rattle.laws.proofs.CheckLaws.{chain}
 use Rattle.decision.specs.Decided.{room_checks}
 use Rattle.decision.proofs.place.check_room.Statement.{statement}
 use Rattle.decision.proofs.place.check_room.Tie as tie

@@ -8,7 +8,7 @@ use borrow.Author.Count.{below_more}
 use borrow.Author.Tests.{not-true, not-false}
 use borrow.Author.Rules.{rules}
 use Rattle.laws.specs.Tests.{all_from}
-use Rattle.laws.specs.TestLaws.{all_intro, all_not}
+use Rattle.laws.proofs.TestLaws.{all_intro, all_not}
 use Rattle.address.specs.declared.Span.{Span}
 use Rattle.kernel.specs.declared.Kernel.{Kernel}
 use Rattle.kernel.specs.Kernel.{extent_no}

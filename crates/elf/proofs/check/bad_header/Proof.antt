@@ -3,7 +3,7 @@
 use mathlib.Core.Path.{sym, ap, ◌∙◌}
 use mathlib.Core.Bool.{not}
 use borrow.Author.Rules.{rules}
-use Rattle.laws.specs.CheckLaws.{tests}
+use Rattle.laws.proofs.CheckLaws.{tests}
 use Rattle.elf.specs.Checks.{bad_header}
 use Rattle.elf.proofs.check.bad_header.Statement.{statement}
 use Rattle.elf.proofs.check.bad_header.Tie as tie

@@ -1,7 +1,7 @@
 -- `elf::check::is_segment` meets its contract: its tests are those of `is_segment`.
 -- Assumes nothing.
 use mathlib.Core.Path.{sym}
-use Rattle.laws.specs.CheckLaws.{tests}
+use Rattle.laws.proofs.CheckLaws.{tests}
 use Rattle.elf.specs.Segments.{is_segment}
 use Rattle.elf.proofs.check.is_segment.Statement.{statement}
 use Rattle.elf.proofs.check.is_segment.Tie as tie

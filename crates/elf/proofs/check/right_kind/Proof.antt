@@ -1,7 +1,7 @@
 -- `elf::check::right_kind` meets its contract: its tests are those of `right_kind`.
 -- Assumes nothing.
 use mathlib.Core.Path.{sym}
-use Rattle.laws.specs.CheckLaws.{tests}
+use Rattle.laws.proofs.CheckLaws.{tests}
 use Rattle.elf.specs.Checks.{right_kind}
 use Rattle.elf.proofs.check.right_kind.Statement.{statement}
 use Rattle.elf.proofs.check.right_kind.Tie as tie

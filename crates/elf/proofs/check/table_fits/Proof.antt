@@ -2,7 +2,7 @@
 -- Assumes nothing.
 use mathlib.Core.Path.{sym}
 use borrow.Author.Rules.{rules}
-use Rattle.laws.specs.CheckLaws.{tests}
+use Rattle.laws.proofs.CheckLaws.{tests}
 use Rattle.elf.specs.Checks.{table_fits}
 use Rattle.elf.proofs.check.table_fits.Statement.{statement}
 use Rattle.elf.proofs.check.table_fits.Tie as tie

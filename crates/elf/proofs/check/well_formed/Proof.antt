@@ -3,7 +3,7 @@
 use mathlib.Core.Path.{sym, ◌∙◌}
 use borrow.Author.Rules.{rules}
 use borrow.Author.Tests.{not-true, not-false}
-use Rattle.laws.specs.CheckLaws.{tests, told}
+use Rattle.laws.proofs.CheckLaws.{tests, told}
 use Rattle.elf.specs.Checks.{well_formed}
 use Rattle.elf.proofs.check.well_formed.Statement.{statement}
 use Rattle.elf.proofs.check.well_formed.Tie as tie

@@ -1,7 +1,7 @@
 -- `image::check::bss_below` meets its contract: its two tests are those of `bss_below`.
 -- Assumes nothing.
 use mathlib.Core.Path.{sym}
-use Rattle.laws.specs.CheckLaws.{tests}
+use Rattle.laws.proofs.CheckLaws.{tests}
 use Rattle.image.proofs.check.bss_below.Statement.{statement}
 use Rattle.image.proofs.check.bss_below.Tie as tie
 

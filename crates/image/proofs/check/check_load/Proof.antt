@@ -1,7 +1,7 @@
 -- `image::check::check_load` meets its contract: its tests are those of `load_checks`, in order.
 -- Assumes nothing.
 use borrow.Author.Rules.{rules}
-use Rattle.laws.specs.CheckLaws.{chain, told}
+use Rattle.laws.proofs.CheckLaws.{chain, told}
 use Rattle.image.specs.Judged.{load_checks}
 use Rattle.image.proofs.check.check_load.Statement.{statement}
 use Rattle.image.proofs.check.check_load.Tie as tie

@@ -6,7 +6,7 @@ use native.Mathlib.Omega.{arith}
 use borrow.Author.Rules.{rules}
 use Rattle.header.specs.Header.{search_limit}
 use Rattle.image.specs.Load.{full_header}
-use Rattle.laws.specs.CheckLaws.{tests}
+use Rattle.laws.proofs.CheckLaws.{tests}
 use Rattle.image.proofs.check.cut_off.Statement.{statement}
 use Rattle.image.proofs.check.cut_off.Tie as tie
 

@@ -1,7 +1,7 @@
 -- `image::check::ends_early` meets its contract: its two tests are those that the contract names.
 -- Assumes nothing.
 use mathlib.Core.Path.{sym}
-use Rattle.laws.specs.CheckLaws.{tests}
+use Rattle.laws.proofs.CheckLaws.{tests}
 use Rattle.image.proofs.check.ends_early.Statement.{statement}
 use Rattle.image.proofs.check.ends_early.Tie as tie
 

@@ -4,7 +4,7 @@ use mathlib.Core.Path.{sym, ap, ◌∙◌}
 use mathlib.Core.Bool.{not}
 use borrow.Author.Rules.{rules}
 use borrow.Author.Tests.{not-true, not-false}
-use Rattle.laws.specs.CheckLaws.{tests, told}
+use Rattle.laws.proofs.CheckLaws.{tests, told}
 use Rattle.image.specs.Judged.{unknown_kind}
 use Rattle.image.proofs.check.unknown_kind.Statement.{statement}
 use Rattle.image.proofs.check.unknown_kind.Tie as tie

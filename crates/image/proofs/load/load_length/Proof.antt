@@ -3,7 +3,7 @@
 use mathlib.Core.Path.{◌∙◌}
 use borrow.Author.Rules.{rules}
 use Rattle.image.specs.Load.{load_length}
-use Rattle.laws.specs.CheckLaws.{tests}
+use Rattle.laws.proofs.CheckLaws.{tests}
 use Rattle.image.proofs.load.load_length.Statement.{statement}
 use Rattle.image.proofs.load.load_length.Tie as tie
 

@@ -1,6 +1,6 @@
 -- `image::load::load_offset` meets its contract: its two tests are those of `before_image`.
 -- Assumes nothing.
-use Rattle.laws.specs.CheckLaws.{tests}
+use Rattle.laws.proofs.CheckLaws.{tests}
 use Rattle.image.proofs.load.load_offset.Statement.{statement}
 use Rattle.image.proofs.load.load_offset.Tie as tie
 

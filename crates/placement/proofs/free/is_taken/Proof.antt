@@ -7,7 +7,7 @@ use native.Mathlib.Omega.{arith}
 use borrow.Author.Rules.{rules}
 use lib.ListN.{length, length-map}
 use Rattle.laws.specs.Tests.{any}
-use Rattle.laws.specs.TestLaws.{any-zero, any_more, any_here}
+use Rattle.laws.proofs.TestLaws.{any-zero, any_more, any_here}
 use Rattle.placement.specs.Free.{max_spans, taken_by, is_taken}
 use Rattle.placement.proofs.TakenLaws.{taken_end}
 use Rattle.placement.proofs.free.is_taken.Statement.{statement}

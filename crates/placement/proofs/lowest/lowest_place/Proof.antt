@@ -4,7 +4,7 @@ use mathlib.Core.Path.{sym, ◌∙◌}
 use Prim.Native.Nat.{◌-◌}
 use native.Mathlib.Omega.{arith}
 use borrow.Author.Rules.{rules}
-use Rattle.placement.specs.StepLaws.{Walked, round_small, step_start, step_on, step_past, step_found, step_end, step_ceiling}
+use Rattle.placement.proofs.StepLaws.{Walked, round_small, step_start, step_on, step_past, step_found, step_end, step_ceiling}
 use Rattle.placement.proofs.lowest.lowest_place.Statement.{statement}
 use Rattle.placement.proofs.lowest.lowest_place.Tie as tie
 

@@ -6,7 +6,7 @@ use Prim.Native.Nat.{ℕ, ◌+◌, ◌-◌, ◌≤◌, ◌<◌}
 use native.Mathlib.Omega.{arith}
 use borrow.Author.Tests.{le-leb, lt-leb}
 use lib.Dec.{leb}
-use Rattle.laws.specs.TestLaws.{lt_or_le}
+use Rattle.laws.proofs.TestLaws.{lt_or_le}
 use Rattle.placement.specs.Lowest.{under_ceiling}
 use Rattle.placement.proofs.lowest.under_ceiling.Statement.{statement}
 use Rattle.placement.proofs.lowest.under_ceiling.Tie as tie

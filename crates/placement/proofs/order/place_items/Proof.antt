@@ -7,11 +7,11 @@ use native.Mathlib.Omega.{arith}
 use borrow.Author.Rules.{rules}
 use Rattle.address.specs.declared.Span.{Span}
 use Rattle.board.specs.Open.{is_open}
-use Rattle.board.specs.OpenLaws.{open_below}
+use Rattle.board.proofs.OpenLaws.{open_below}
 use Rattle.placement.specs.declared.Spans.{Spans}
-use Rattle.placement.specs.LowestLaws.{place_end}
+use Rattle.placement.proofs.LowestLaws.{place_end}
 use Rattle.placement.specs.Order.{with_span, placed_from, place_items}
-use Rattle.placement.specs.OrderLaws.{with_count, from_at, from_none, from_end}
+use Rattle.placement.proofs.OrderLaws.{with_count, from_at, from_none, from_end}
 use Rattle.placement.proofs.order.place_items.Statement.{statement}
 use Rattle.placement.proofs.order.place_items.Tie as tie
 

@@ -4,7 +4,7 @@ use mathlib.Core.Path.{◌≡◌}
 use Prim.Native.Nat.{◌-◌, ◌≤◌}
 use native.Mathlib.Omega.{arith}
 use borrow.Author.Rules.{rules}
-use Rattle.laws.specs.TableLaws.{table_none}
+use Rattle.laws.proofs.TableLaws.{table_none}
 use Rattle.submission.specs.Format.{max_modules}
 use Rattle.submission.specs.Layout.{ceiling_table}
 use Rattle.submission.proofs.TurnLaws.{ceilings_more}

@@ -7,7 +7,7 @@ use native.Mathlib.Omega.{arith}
 use borrow.Author.Tests.{not-true, not-false}
 use borrow.Author.Rules.{rules}
 use Rattle.laws.specs.Tests.{all_from}
-use Rattle.laws.specs.TestLaws.{all_not, all_zero}
+use Rattle.laws.proofs.TestLaws.{all_not, all_zero}
 use Rattle.submission.specs.Rules.{entry_holds}
 use Rattle.submission.proofs.TurnLaws.{hold_more}
 use Rattle.submission.proofs.rules.entries_hold.Statement.{statement}

@@ -4,7 +4,7 @@ use mathlib.Core.Path.{◌≡◌, sym}
 use Prim.Native.Nat.{◌≤◌, ◌<◌}
 use native.Mathlib.Omega.{arith}
 use borrow.Author.Tests.{le-leb, eq-eqb}
-use Rattle.laws.specs.CheckLaws.{chain}
+use Rattle.laws.proofs.CheckLaws.{chain}
 use Rattle.submission.specs.Rules.{max_string, in_limits}
 use Rattle.submission.proofs.rules.in_limits.Statement.{statement}
 use Rattle.submission.proofs.rules.in_limits.Tie as tie

@@ -8,7 +8,7 @@ use native.Mathlib.Omega.{arith}
 use borrow.Author.Rules.{rules}
 use lib.ListN.{get_or}
 use Rattle.laws.specs.Tests.{all_from}
-use Rattle.laws.specs.TestLaws.{all_not, all_zero}
+use Rattle.laws.proofs.TestLaws.{all_not, all_zero}
 use Rattle.submission.specs.Scan.{has_zero}
 use Rattle.submission.specs.Format.{module_count, max_modules}
 use Rattle.submission.specs.Layout.{module_of, no_module, layout_of, bytes_of}

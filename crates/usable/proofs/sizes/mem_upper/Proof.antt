@@ -7,7 +7,7 @@ use Prim.Native.Nat.{ℕ, zero, suc, ◌-◌, ◌/◌, ◌≤◌}
 use native.Mathlib.Omega.{arith}
 use borrow.Author.Rules.{rules}
 use Rattle.laws.specs.Tests.{run}
-use Rattle.laws.specs.TestLaws.{true_or_false}
+use Rattle.laws.proofs.TestLaws.{true_or_false}
 use Rattle.address.specs.Address.{floor}
 use Rattle.usable.specs.Usable.{address_space, is_usable}
 use Rattle.usable.specs.Sizes.{kib, mem_upper}

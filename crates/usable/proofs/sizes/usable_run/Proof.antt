@@ -7,12 +7,12 @@ use native.Mathlib.Omega.{arith}
 use borrow.Author.Tests.{not-true, not-false}
 use borrow.Author.Rules.{rules}
 use Rattle.laws.specs.Tests.{run}
-use Rattle.laws.specs.TestLaws.{run_is}
+use Rattle.laws.proofs.TestLaws.{run_is}
 use Rattle.edge.specs.PassLaws.{AllPass, pass_start, pass_on}
 use Rattle.memory_map.specs.declared.MemoryMap.{MemoryMap}
 use Rattle.usable.specs.MapEdge.{map_edge}
 use Rattle.usable.specs.Usable.{address_space, is_usable}
-use Rattle.usable.specs.MapEdgeLaws.{map_edge_at}
+use Rattle.usable.proofs.MapEdgeLaws.{map_edge_at}
 use Rattle.usable.proofs.sizes.usable_run.Statement.{statement}
 use Rattle.usable.proofs.sizes.usable_run.Tie as tie
 

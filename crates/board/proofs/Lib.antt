@@ -1,0 +1,3 @@
+pub mod OpenEdgeLaws
+pub mod OpenLaws
+pub mod WindowLaws

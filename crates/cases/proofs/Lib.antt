@@ -1,0 +1,5 @@
+pub mod CountLaws
+pub mod ModelLaws
+pub mod RunLaws
+pub mod TableLaws
+pub mod WalkLaws

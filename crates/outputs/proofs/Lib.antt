@@ -1,0 +1,2 @@
+pub mod MendOutputsLaws
+pub mod OutputsLaws
