@@ -68,6 +68,7 @@ pub fn read_u64(s: &[u8], at: usize) -> u64
 }
 
 // Writes x into dst at the offset `at`, lowest byte first; what would fall past the end is left out.
+#[tactic(auto, unfolding(crate::specs::Number::number_bytes))]
 pub fn write_u32(dst: &mut [u8], at: usize, x: u32)
     ensures { dst.new ≡ patched dst.old at (number_bytes 4 x) }
 {
