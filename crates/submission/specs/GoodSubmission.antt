@@ -4,7 +4,7 @@
 --     NoZero            no byte is zero
 -- Assumes nothing.
 use Rattle.std.specs.Prelude.{◌≡◌, List, ◌∷◌, [], ◌⊎◌, ℕ, ◌≤◌, ◌<◌, length, take, get_or}
-use Rattle.submission.specs.Format.{mark, version, module_count, line_length, data_length, string_length, ceiling, parts_end, line_bytes, string_bytes}
+use Rattle.submission.specs.Format.{version, module_count, line_length, data_length, string_length, ceiling, parts_end, line_bytes, string_bytes}
 
 -- no byte is zero
 abbrev pub NoZero : List ℕ → Type 0

@@ -10,6 +10,7 @@ use crate::read::TableEntry;
 use crate::{Layout, MAX_LINE, MAX_STRING, PREFIX, bytes_of, read, scan};
 
 // Whether the prefix is there, with the mark and version 1 or 2.
+#[tactic(auto, unfolding(crate::specs::Rules::is_submission))]
 pub(crate) fn is_submission(s: &[u8]) -> bool
     ensures { result ≡ is_submission s.now }
 {
@@ -64,6 +65,7 @@ fn entries_hold(s: &[u8], count: usize) -> bool
 }
 
 // Whether a module has data, a string that is not too long, and no ceiling in version 1.
+#[tactic(auto, unfolding(crate::specs::Rules::in_limits))]
 fn in_limits(version: u16, entry: TableEntry) -> bool
     ensures { result ≡ in_limits version entry }
 {

@@ -1,0 +1,11 @@
+-- `submission::rules::strings_hold` meets its contract. The loop's invariant: the strings passed hold no zero byte.
+use Rattle.std.proofs.Common.{◌-◌, ◌≡◌, ◌≤◌, true}
+use Rattle.laws.specs.Tests.{all_from}
+use Rattle.submission.specs.Rules.{string_holds}
+use Rattle.submission.proofs.rules.strings_hold.Given as goal
+
+abbrev pub invariant-loop-i : goal.invariant-loop-i
+invariant-loop-i l = (l.i ≤ l.count) × (all_from (string_holds l.s) 0 l.i ≡ true)
+
+abbrev pub decreases-loop-i : goal.decreases-loop-i
+decreases-loop-i l = l.count - l.i
