@@ -115,6 +115,7 @@ fn module_from(at: usize, entry: TableEntry) -> Module
 }
 
 // No parts.
+#[tactic(auto, unfolding(crate::specs::Parse::no_layout))]
 pub(crate) fn no_layout() -> Layout
     ensures { result ≡ no_layout }
 {
