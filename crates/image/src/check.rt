@@ -31,6 +31,7 @@ pub(crate) fn no_addresses(flags: u32) -> bool
 }
 
 // Whether flag bit 16 is clear, and the image does not begin with the ELF mark.
+#[tactic(auto, unfolding(crate::specs::Judged::unknown_kind))]
 pub(crate) fn unknown_kind(image: &[u8], flags: u32) -> bool
     ensures { result ≡ unknown_kind image.now flags }
 {
@@ -51,6 +52,7 @@ pub(crate) fn cut_off(at: ImageOffset, n: usize) -> bool
 }
 
 // The first of checks 12 and 13 that refuses a load of `len` bytes from the offset, of an image of n bytes.
+#[tactic(auto, unfolding(crate::specs::Judged::load_checks, laws::specs::Checks::first_of))]
 pub(crate) fn check_load(h: AddressFields, offset: ImageOffset, len: usize, n: usize) -> Answer
     requires { (offset.0 + len < 2 ^ 64) × (load_end h len < 2 ^ 64) }
     ensures { result ≡ first_of (load_checks h offset.0 len n) Answer.Load }

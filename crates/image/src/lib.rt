@@ -21,6 +21,7 @@ mod check;
 mod load;
 
 // The answer for an image, and the kernel that it asks for where no check refuses it.
+#[tactic(auto, using(crate::proofs::RefusalLaws::no_header))]
 pub fn judge(image: &[u8]) -> Judged
     ensures { result ≡ judged image.now }
 {
@@ -84,6 +85,7 @@ fn judge_fields(image: &[u8], found: FoundHeader) -> Judged
 }
 
 // The answer for an image of n bytes whose load begins at the offset, once its header is accepted.
+#[tactic(auto, using(crate::proofs::RefusalLaws::length_fits, crate::proofs::RefusalLaws::one_few))]
 fn judge_load(h: AddressFields, found: FoundHeader, offset: ImageOffset, n: usize) -> Judged
     requires { Narrow h × (offset.0 < n) × (n < 2 ^ 63) }
     ensures { result ≡ with_entry (first_of (load_checks h offset.0 (load_length h offset.0 n) n) Answer.Load) (kernel_for h found offset.0 (load_length h offset.0 n)) }
@@ -95,6 +97,7 @@ fn judge_load(h: AddressFields, found: FoundHeader, offset: ImageOffset, n: usiz
 }
 
 // The kernel of the header found, with `len` bytes to load from the offset.
+#[tactic(auto, unfolding(crate::specs::Judged::kernel_for, kernel::specs::Kernel::kernel_with))]
 fn kernel_for(h: AddressFields, found: FoundHeader, offset: ImageOffset, len: usize) -> Kernel
     requires { load_end h len < 2 ^ 64 }
     ensures { result ≡ kernel_for h found offset.0 len }

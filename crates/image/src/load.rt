@@ -41,6 +41,7 @@ fn read_address(image: &[u8], at: usize) -> PhysAddr
 }
 
 // The address fields of the header at the offset `at`.
+#[tactic(auto, unfolding(crate::specs::Load::fields_at))]
 pub(crate) fn read_fields(image: &[u8], at: usize) -> AddressFields
     requires { at + full_header < 2 ^ 64 }
     ensures { (result ≡ fields_at image.now at) × Narrow result }
@@ -70,6 +71,7 @@ pub(crate) fn load_offset(h: AddressFields, header: ImageOffset) -> Search
 }
 
 // How many of the image's n bytes are loaded, from an offset inside it.
+#[tactic(auto, unfolding(crate::specs::Load::load_length))]
 pub(crate) fn load_length(h: AddressFields, offset: ImageOffset, n: usize) -> usize
     requires { offset.0 < n }
     ensures { result ≡ load_length h offset.0 n }
