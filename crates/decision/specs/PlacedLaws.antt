@@ -5,7 +5,7 @@
 --     load_in_order    the placing promise for the items of a load, beside the kernel's extents
 --     span_below       a placed item begins below 2^32
 -- Assumes nothing.
-use Rattle.std.specs.Prelude.{ℕ, ◌+◌, ◌≤◌, ◌<◌, ◌^◌, length}
+use Rattle.std.specs.Prelude.{ℕ, ◌+◌, ◌≤◌, ◌<◌, ◌^◌}
 use Rattle.std.proofs.Common.{arith}
 use Rattle.laws.proofs.TableLaws.{length_table}
 use Rattle.address.specs.Address.{top}

@@ -36,6 +36,7 @@ fn kernel_open(board: Board, kernel: Kernel) -> bool
 }
 
 // The answer where `done` of n modules and the information block found room.
+#[tactic(auto, unfolding(crate::specs::Decided::room_checks, laws::specs::Checks::first_of))]
 fn check_room(done: usize, n: usize) -> Answer
     requires { n ≤ max_modules }
     ensures { result ≡ first_of (room_checks done n) Answer.Load }
@@ -50,6 +51,7 @@ fn check_room(done: usize, n: usize) -> Answer
 }
 
 // The plan of n modules and the information block, placed behind the kernel's extents.
+#[tactic(auto, unfolding(crate::specs::Decided::plan_of))]
 fn plan_of(kernel: Kernel, spans: Spans, n: usize) -> Plan
     requires { (n ≤ max_modules) × (kernel.count + n < max_spans) × ((span_no spans.list (kernel.count + n)).start.0 < 2 ^ 32) }
     ensures { result ≡ plan_of kernel spans n }
@@ -66,6 +68,7 @@ fn plan_of(kernel: Kernel, spans: Spans, n: usize) -> Plan
 }
 
 // A refusal has a plan of zeros.
+#[tactic(auto, unfolding(crate::specs::Plan::no_plan))]
 pub(crate) fn refuse(a: Answer) -> Decision
     ensures { result ≡ record { answer = a; plan = no_plan } }
 {
