@@ -7,7 +7,7 @@
 --     strings_more, strings_fewer, strings_room    the strings of a layout
 --     block_length_lem                                 the length of a block with the first n strings
 -- Assumes nothing.
-use Rattle.std.specs.Prelude.{◌≡◌, refl, List, [], ◌∷◌, ◌++◌, map, ℕ, zero, suc, ◌+◌, ◌*◌, ◌-◌, ◌≤◌, ◌<◌, length}
+use Rattle.std.specs.Prelude.{◌≡◌, refl, List, [], ◌∷◌, ◌++◌, map, ℕ, zero, suc, ◌+◌, ◌*◌, ◌≤◌, ◌<◌, length}
 use Rattle.std.proofs.Math.Path.{ap}
 use Rattle.std.proofs.Common.{append_assoc, append-nil, ⊎_elim, add-zero, eq-or-lt_of_le, le_of_suc-le-suc, add-one, arith, length-append}
 use Rattle.laws.specs.Table.{listed}

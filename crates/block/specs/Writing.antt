@@ -4,7 +4,7 @@
 --     SpansLow, StringsIn, Room    what the loader has shown before a block is written
 --     PartsStand                   offsets are those of the parts
 -- Assumes nothing.
-use Rattle.std.specs.Prelude.{◌≡◌, List, map, ℕ, ◌+◌, ◌≤◌, ◌<◌, ◌^◌, length}
+use Rattle.std.specs.Prelude.{◌≡◌, List, ℕ, ◌+◌, ◌≤◌, ◌<◌, ◌^◌, length}
 use Rattle.laws.specs.Table.{listed}
 use Rattle.address.specs.declared.Span.{Span}
 use Rattle.address.specs.Span.{span_no}

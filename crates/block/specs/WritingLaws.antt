@@ -8,7 +8,7 @@
 use Rattle.std.specs.Prelude.{◌≡◌, List, ◌++◌, map, length}
 use Rattle.std.proofs.Math.Path.{refl}
 use Rattle.std.proofs.Common.{ap, ◌∙◌, suc-mul, arith}
-use Prim.Native.Nat.{ℕ, zero, suc, ◌+◌, ◌*◌, ◌-◌, ◌^◌, ◌≤◌, ◌<◌}
+use Prim.Native.Nat.{ℕ, zero, suc, ◌+◌, ◌*◌, ◌^◌, ◌≤◌, ◌<◌}
 use Rattle.std.proofs.Math.ListN.{length-append}
 use Rattle.laws.specs.Table.{listed}
 use Rattle.laws.proofs.TableLaws.{length_listed, listed_at, listed_same, map_listed}

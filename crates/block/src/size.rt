@@ -24,6 +24,7 @@ pub struct Offsets {
 }
 
 // The bytes of a text of n bytes with its zero; an empty text has none.
+#[tactic(auto, using(crate::specs::TextLaws::size_none, crate::specs::TextLaws::size_some))]
 pub(crate) fn text_size(n: usize) -> usize
     requires { text_size n < 2 ^ 64 }
     ensures { result ≡ text_size n }

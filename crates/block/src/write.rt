@@ -123,6 +123,7 @@ fn address_at(start: PhysAddr, offset: usize) -> u32
 }
 
 // The address a of a text of n bytes, or 0 where it is empty.
+#[tactic(auto, using(crate::specs::TextLaws::address_none, crate::specs::TextLaws::address_some))]
 fn text_address(a: u64, n: usize) -> u32
     requires { a + n ≤ 2 ^ 32 }
     ensures { result ≡ address_of a n }
@@ -131,6 +132,7 @@ fn text_address(a: u64, n: usize) -> u32
 }
 
 // The words of a structure.
+#[tactic(auto, unfolding(crate::specs::Block::structure_words))]
 fn structure_words(s: Structure) -> [u32; 22]
     ensures { result ≡ structure_words s }
 {
