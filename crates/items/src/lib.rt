@@ -49,6 +49,7 @@ pub fn items(layout: Layout, pages: bool, size: u64) -> Items
 }
 
 // The item of an index: a module, or behind the last one the information block.
+#[tactic(auto, unfolding(crate::specs::LoadItems::load_item))]
 fn item(layout: Layout, pages: bool, size: u64, i: usize) -> Item
     requires { (layout.count ≤ max_modules) × (i ≤ layout.count) }
     ensures { result ≡ load_item layout pages size i }
@@ -69,6 +70,7 @@ fn item(layout: Layout, pages: bool, size: u64, i: usize) -> Item
 }
 
 // Where a module with a ceiling of so many MiB ends at the latest; 0 is none, and then it is where addresses end.
+#[tactic(auto, unfolding(crate::specs::LoadItems::ceiling_of))]
 fn ceiling(count: u16) -> PhysAddr
     ensures { result ≡ record { 0 = ceiling_of count } }
 {

@@ -1,0 +1,16 @@
+-- `items::extents` meets its contract: the loop fills a table.
+use Rattle.std.proofs.Common.{◌≡◌, ◌-◌, ◌≤◌}
+use Rattle.laws.specs.Table.{table}
+use Rattle.address.specs.Span.{no_span}
+use Rattle.kernel.specs.Kernel.{extent_no}
+use Rattle.placement.specs.Free.{max_spans}
+use Rattle.items.proofs.extents.Given as goal
+
+abbrev pub invariant-loop-i : goal.invariant-loop-i
+invariant-loop-i l = record {
+  within : l.i ≤ l.kernel.count;
+  filled : l.list ≡ table (extent_no l.kernel) l.i max_spans no_span;
+}
+
+abbrev pub decreases-loop-i : goal.decreases-loop-i
+decreases-loop-i l = l.kernel.count - l.i

@@ -1,0 +1,24 @@
+-- `items::items` meets its contract.
+use Rattle.std.proofs.Common.{rules, ◌≡◌, ◌<◌, ◌+◌, arith}
+use Rattle.laws.specs.TableLaws.{table_none, table_more}
+use Rattle.placement.specs.Order.{max_items, no_item}
+use Rattle.items.specs.LoadItems.{load_item, items_of}
+use Rattle.items.proofs.items.Goals as goal
+
+pub loop-i-init : goal.loop-i-init
+loop-i-init c = record {
+  within = search rules;
+  filled = table_none _ max_items no_item;
+}
+
+pub loop-i-preserved : goal.loop-i-preserved
+loop-i-preserved c =
+    let room : c.loop-i.i < max_items = omega arith in
+    record {
+      within = omega arith;
+      filled = cc (table_more (load_item c.args.layout c.args.pages c.args.size) max_items no_item c.loop-i.i room);
+    }
+
+pub returns : goal.returns
+unfolding items_of
+returns c = let e : c.loop-i.i ≡ c.args.layout.count + 1 = omega arith in cc
