@@ -1,6 +1,6 @@
 -- `decision::decide` meets its contract: a refusal of the checks before 15, or the decision on memory.
 use Rattle.std.proofs.Common.{◌≡◌, ℕ, List, Bool, true, arith, sym, ap, ◌∙◌}
-use Rattle.laws.specs.CheckLaws.{told}
+use Rattle.laws.proofs.CheckLaws.{told}
 use Rattle.laws.specs.Checks.{first_of}
 use Rattle.answer.specs.Answer.{is_load, or_else}
 use Rattle.answer.specs.declared.Answer.{Answer}

@@ -1,6 +1,6 @@
 -- `image::judge_fields` meets its contract: its tests are those of `field_checks`, in order, and those on the load are left.
 use Rattle.std.proofs.Common.{◌∙◌}
-use Rattle.laws.specs.CheckLaws.{told}
+use Rattle.laws.proofs.CheckLaws.{told}
 use Rattle.image.proofs.RefusalLaws.{WholeHeader, cut_off_lem, before_image_lem, load_left}
 use Rattle.image.proofs.judge_fields.Goals as goal
 

@@ -1,7 +1,7 @@
 -- `image::judge_header` meets its contract: its tests are those of `header_checks`, in order, and then come those on the kind and on the entry.
 use Rattle.std.proofs.Common.{arith, ◌∙◌}
-use Rattle.header.specs.HeaderLaws.{header_lowest}
-use Rattle.laws.specs.CheckLaws.{told}
+use Rattle.header.proofs.HeaderLaws.{header_lowest}
+use Rattle.laws.proofs.CheckLaws.{told}
 use Rattle.image.proofs.RefusalLaws.{FlagsFound, unknown_request_lem, undefined_bits_lem, unknown_kind_lem, kind_judged}
 use Rattle.image.proofs.judge_header.Goals as goal
 

@@ -1,6 +1,6 @@
 -- `image::judge_kind` meets its contract: the flags choose between address fields and ELF.
 use Rattle.std.proofs.Common.{◌∙◌}
-use Rattle.laws.specs.CheckLaws.{told}
+use Rattle.laws.proofs.CheckLaws.{told}
 use Rattle.image.proofs.RefusalLaws.{FlagsFound, found_is, by_elf, by_address}
 use Rattle.image.proofs.judge_kind.Goals as goal
 

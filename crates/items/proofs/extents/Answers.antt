@@ -1,6 +1,6 @@
 -- `items::extents` meets its contract.
 use Rattle.std.proofs.Common.{rules, ◌≡◌, ◌<◌, ◌∙◌, ap, arith, replicate}
-use Rattle.laws.specs.TableLaws.{table_none, table_more}
+use Rattle.laws.proofs.TableLaws.{table_none, table_more}
 use Rattle.address.specs.Span.{no_span}
 use Rattle.kernel.specs.Kernel.{extent_no}
 use Rattle.placement.specs.Free.{max_spans}

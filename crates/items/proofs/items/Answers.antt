@@ -1,6 +1,6 @@
 -- `items::items` meets its contract.
 use Rattle.std.proofs.Common.{rules, ◌≡◌, ◌<◌, ◌+◌, arith}
-use Rattle.laws.specs.TableLaws.{table_none, table_more}
+use Rattle.laws.proofs.TableLaws.{table_none, table_more}
 use Rattle.placement.specs.Order.{max_items, no_item}
 use Rattle.items.specs.LoadItems.{load_item, items_of}
 use Rattle.items.proofs.items.Goals as goal

@@ -1,6 +1,6 @@
 -- `items::module_spans` meets its contract.
 use Rattle.std.proofs.Common.{rules, ◌≡◌, ◌+◌, ◌<◌, ◌∙◌, ap, arith, replicate}
-use Rattle.laws.specs.TableLaws.{table_none, table_more}
+use Rattle.laws.proofs.TableLaws.{table_none, table_more}
 use Rattle.address.specs.Span.{no_span, span_no}
 use Rattle.submission.specs.Format.{max_modules}
 use Rattle.items.specs.LoadItems.{module_spans}

@@ -1,6 +1,6 @@
 -- `decision::place::decide_memory` meets its contract: each return is one case of the last two stages.
 use Rattle.std.proofs.Common.{◌≡◌, true, arith, sym, ap, ◌∙◌}
-use Rattle.laws.specs.CheckLaws.{told}
+use Rattle.laws.proofs.CheckLaws.{told}
 use Rattle.laws.specs.Checks.{first_of}
 use Rattle.answer.specs.Answer.{is_load}
 use Rattle.answer.specs.declared.Answer.TheVariants.{Load}

@@ -1,7 +1,7 @@
 -- `decision::place::kernel_open` meets its contract. The loop's invariant: the extents passed are open.
 use Rattle.std.proofs.Common.{◌≡◌, ℕ, ◌-◌, Bool, arith, rules, sym, ◌∙◌, below_more}
 use Rattle.laws.specs.Tests.{all_from}
-use Rattle.laws.specs.TestLaws.{all_intro, all_not}
+use Rattle.laws.proofs.TestLaws.{all_intro, all_not}
 use Rattle.address.specs.declared.Span.{Span}
 use Rattle.kernel.specs.declared.Kernel.{Kernel}
 use Rattle.kernel.specs.Kernel.{extent_no}

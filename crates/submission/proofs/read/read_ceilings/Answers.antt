@@ -1,6 +1,6 @@
 -- An array of zeros is a table of no ceiling, and each turn stores one ceiling more.
 use Rattle.std.proofs.Common.{arith}
-use Rattle.laws.specs.TableLaws.{table_none}
+use Rattle.laws.proofs.TableLaws.{table_none}
 use Rattle.submission.specs.Format.{ceiling, max_modules}
 use Rattle.submission.proofs.TurnLaws.{ceilings_more}
 use Rattle.submission.proofs.read.read_ceilings.Goals as goal

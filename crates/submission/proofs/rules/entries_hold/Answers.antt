@@ -1,6 +1,6 @@
 -- An entry that does not hold ends the loop, and each turn passes one that holds.
 use Rattle.std.proofs.Common.{◌≡◌, true, false, sym, arith}
-use Rattle.laws.specs.TestLaws.{all_not, all_zero}
+use Rattle.laws.proofs.TestLaws.{all_not, all_zero}
 use Rattle.submission.specs.Rules.{entry_holds}
 use Rattle.submission.proofs.TurnLaws.{hold_more}
 use Rattle.submission.proofs.rules.entries_hold.Goals as goal

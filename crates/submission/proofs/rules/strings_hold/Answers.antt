@@ -1,7 +1,7 @@
 -- A string with a zero byte ends the loop, and each turn passes one without.
 use Rattle.std.proofs.Common.{◌≡◌, ◌∙◌, ◌<◌, Bool, true, false, not, List, ℕ, get_or, ap, sym, arith}
 use Rattle.laws.specs.Tests.{all_from}
-use Rattle.laws.specs.TestLaws.{all_not, all_zero}
+use Rattle.laws.proofs.TestLaws.{all_not, all_zero}
 use Rattle.submission.specs.Scan.{has_zero}
 use Rattle.submission.specs.Format.{module_count}
 use Rattle.submission.specs.Layout.{module_of, no_module, layout_of, bytes_of}
