@@ -4,12 +4,7 @@
 --     bad_more                                  whether one is bad, with one more
 --     gathered_all                              all entries
 -- Assumes nothing.
-use mathlib.Core.Path.{◌≡◌, refl}
-use mathlib.Core.Bool.{Bool, true, false, ◌||◌}
-use mathlib.Core.List.{List, [], ◌∷◌}
-use Prim.Native.Nat.{ℕ, ◌+◌, ◌<◌}
-use native.Mathlib.Omega.{arith}
-use lib.ListN.{length, length-append, set, replicate}
+use Rattle.std.proofs.Common.{◌≡◌, refl, Bool, true, false, ◌||◌, List, [], ◌∷◌, ℕ, ◌+◌, ◌<◌, arith, length, length-append, set, replicate}
 use Rattle.laws.specs.Passing.{passing}
 use Rattle.laws.specs.Tests.{any}
 use Rattle.laws.proofs.TestLaws.{any_more}

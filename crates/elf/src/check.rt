@@ -12,6 +12,7 @@ use kernel::MAX_SEGMENTS;
 pub(crate) const PT_LOAD: u32 = 1;
 
 // Whether the header stands in an image of n bytes, is of the right kind, and its table fits.
+#[tactic(auto, unfolding(crate::specs::Checks::well_formed))]
 pub(crate) fn well_formed(h: ElfHeader, n: usize) -> bool
     requires { Short h }
     ensures { result ≡ well_formed h n }
@@ -26,6 +27,7 @@ pub(crate) fn well_formed(h: ElfHeader, n: usize) -> bool
 }
 
 // Whether it is a little-endian executable of 32 bits for the 80386, with program headers of 32 bytes.
+#[tactic(auto, unfolding(crate::specs::Checks::right_kind))]
 fn right_kind(h: ElfHeader) -> bool
     ensures { result ≡ right_kind h }
 {
@@ -45,6 +47,7 @@ fn right_kind(h: ElfHeader) -> bool
 }
 
 // Whether the table lies in an image of n bytes, and has no more entries than there may be segments.
+#[tactic(auto, unfolding(crate::specs::Checks::table_fits))]
 fn table_fits(h: ElfHeader, n: usize) -> bool
     requires { Short h }
     ensures { result ≡ table_fits h n }
@@ -56,6 +59,7 @@ fn table_fits(h: ElfHeader, n: usize) -> bool
 }
 
 // Whether a program header is a segment: loadable, and not empty in memory.
+#[tactic(auto, unfolding(crate::specs::Segments::is_segment))]
 pub(crate) fn is_segment(p: ProgramHeader) -> bool
     ensures { result ≡ is_segment p }
 {
@@ -77,6 +81,7 @@ pub(crate) fn or_bad(bad: bool, p: ProgramHeader, n: usize) -> bool
 }
 
 // Whether a program header is loadable, but does not fit an image of n bytes or its own memory size.
+#[tactic(auto, unfolding(crate::specs::Checks::bad_header))]
 fn bad_header(p: ProgramHeader, n: usize) -> bool
     requires { Narrow p }
     ensures { result ≡ bad_header p n }
@@ -88,6 +93,7 @@ fn bad_header(p: ProgramHeader, n: usize) -> bool
 }
 
 // Whether the file bytes lie in an image of n bytes, and are no more than the memory size.
+#[tactic(auto, unfolding(crate::specs::Checks::fits))]
 fn fits(p: ProgramHeader, n: usize) -> bool
     requires { Narrow p }
     ensures { result ≡ fits p n }

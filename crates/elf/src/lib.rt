@@ -83,6 +83,7 @@ fn read_table(image: &[u8], h: ElfHeader, found: FoundHeader) -> Table
 }
 
 // The first check that refuses a table with this kernel, where the header is well formed.
+#[tactic(auto, unfolding(crate::specs::Read::table_checks, laws::specs::Checks::first_of))]
 fn check_table(kernel: Kernel, bad: bool) -> Answer
     requires { kernel.count ≤ max_segments }
     ensures { result ≡ first_of (table_checks kernel bad) Answer.Load }

@@ -45,6 +45,7 @@ pub struct ProgramHeader {
 }
 
 // The ELF header of an image.
+#[tactic(auto, unfolding(crate::specs::Elf::elf_header))]
 pub(crate) fn read_header(image: &[u8]) -> ElfHeader
     ensures { HeaderRead image.now result }
 {
@@ -61,6 +62,7 @@ pub(crate) fn read_header(image: &[u8]) -> ElfHeader
 }
 
 // The program header of an index.
+#[tactic(auto, unfolding(crate::specs::Elf::program_header_at))]
 pub(crate) fn program_header(image: &[u8], h: ElfHeader, i: usize) -> ProgramHeader
     requires { HeaderRead image.now h × (i < 2 ^ 16) }
     ensures { (result ≡ program_header_no image.now i) × Narrow result }
