@@ -95,6 +95,7 @@ fn change_at(image: &[u8], offset: ImageOffset) -> Change
 }
 
 // The checksum with which magic and flags, summed modulo 2^32, give 0.
+#[tactic(auto, unfolding(crate::specs::Mend::right_checksum))]
 fn right_checksum(flags: u32) -> u32
     ensures { result ≡ right_checksum flags }
 {
