@@ -59,6 +59,7 @@ fn sums_to_zero(s: &[u8], at: usize) -> bool
 }
 
 // The lowest header in the bytes of a searched part, and how many false headers stand below it.
+#[tactic(auto, using(crate::proofs::TurnLaws::passed_start, crate::proofs::TurnLaws::passed_found, crate::proofs::TurnLaws::passed_all))]
 fn first_header(s: &[u8]) -> Searched
     requires { length s.now ≤ search_limit }
     ensures { result ≡ searched s.now }
@@ -85,6 +86,7 @@ fn first_header(s: &[u8]) -> Searched
 }
 
 // The header of an image: the lowest in its searched part; and how many false headers the search passed over.
+#[tactic(auto, using(crate::specs::FalseHeaderLaws::searched_cut))]
 pub fn find_header(image: &[u8]) -> Searched
     ensures { result ≡ searched image.now }
 {

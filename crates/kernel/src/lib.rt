@@ -88,6 +88,7 @@ pub fn extent(kernel: Kernel, i: usize) -> Span
 }
 
 // Whether two extents share an address.
+#[tactic(auto, using(laws::specs::TestLaws::any_none), unfolding(crate::specs::Checks::extents_overlap, crate::specs::Checks::overlaps_earlier))]
 pub fn extents_overlap(kernel: Kernel) -> bool
     requires { kernel.count ≤ max_segments }
     ensures { result ≡ extents_overlap kernel }
@@ -103,6 +104,7 @@ pub fn extents_overlap(kernel: Kernel) -> bool
 }
 
 // Whether an extent but the first shares an address with one before it.
+#[tactic(auto, using(laws::specs::TestLaws::any_none), unfolding(crate::specs::Checks::overlaps_earlier, crate::specs::Checks::overlap_no))]
 fn overlaps_earlier(kernel: Kernel, j: usize) -> bool
     requires { (1 ≤ j) × (j + 1 ≤ max_segments) }
     ensures { result ≡ overlaps_earlier kernel j }
@@ -119,6 +121,7 @@ fn overlaps_earlier(kernel: Kernel, j: usize) -> bool
 }
 
 // Whether the entry lies in no segment's load bytes.
+#[tactic(auto, using(laws::specs::TestLaws::any_none_more), unfolding(crate::specs::Checks::entry_outside, crate::specs::Checks::entry_in, laws::specs::Tests::any))]
 fn entry_outside(kernel: Kernel) -> bool
     requires { kernel.count ≤ max_segments }
     ensures { result ≡ entry_outside kernel }
@@ -145,6 +148,7 @@ fn loaded(kernel: Kernel, i: usize) -> Span
 }
 
 // The answer of the checks so far and then of the one on the entry, with the kernel, or with zeros where it is a refusal.
+#[tactic(auto, unfolding(crate::specs::Judge::with_kernel, crate::specs::Checks::entry_checks, laws::specs::Checks::first_of, answer::specs::Answer::or_else))]
 pub fn judge_entry(answer: Answer, kernel: Kernel) -> Judged
     requires { kernel.count ≤ max_segments }
     ensures { result ≡ with_entry answer kernel }

@@ -28,6 +28,7 @@ pub enum Mending {
 }
 
 // Mends the checksum at the lowest magic of an image without a header, and changes no other byte.
+#[tactic(auto, using(crate::specs::PromisesLaws::change_early), unfolding(crate::specs::Mend::image_after))]
 pub fn mend(image: &mut [u8]) -> Mending
     ensures value { result ≡ mending_of image.old }
     ensures image_after { image.new ≡ image_after image.old }
@@ -53,6 +54,7 @@ pub fn number(mending: Mending) -> u32
 }
 
 // What is to be changed in an image, if anything is.
+#[tactic(auto, using(crate::specs::MendLaws::magic_early, crate::specs::MendLaws::with_header, crate::specs::MendLaws::at_magic, crate::specs::MendLaws::nowhere))]
 fn decide(image: &[u8]) -> Mending
     ensures { result ≡ mending_of image.now }
 {
@@ -69,6 +71,7 @@ fn decide(image: &[u8]) -> Mending
 }
 
 // The lowest multiple of 4 at which the magic stands, with room for 12 bytes inside the searched part.
+#[tactic(auto, using(crate::proofs::TurnLaws::tried_on, crate::proofs::TurnLaws::tried_found, crate::proofs::TurnLaws::tried_all))]
 fn lowest_magic(image: &[u8]) -> Search
     ensures { result ≡ lowest_magic image.now }
 {

@@ -1,4 +1,5 @@
 -- `elf::judge` meets its contract: the answer of its checks, with the kernel of its segments.
+-- Assumes nothing.
 use Rattle.std.proofs.Common.{◌≡◌, ◌∙◌, ℕ, List, true, false, length, sym}
 use Rattle.laws.specs.Checks.{first_of}
 use Rattle.laws.specs.Tests.{any}

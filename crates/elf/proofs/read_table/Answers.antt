@@ -1,4 +1,6 @@
--- `elf::read_table` meets its contract: a turn gathers one entry more.
+-- `elf::read_table` meets its contract. The loop's invariant: the segments among the entries passed stand in their
+-- places, and whether one of these entries is bad is known.
+-- Assumes nothing.
 use Rattle.std.proofs.Common.{refl, sym, arith, rules}
 use Rattle.laws.specs.TestLaws.{any-zero}
 use Rattle.elf.proofs.TurnLaws.{gathered_none, gathered_one, gathered_on, bad_more, gathered_all}

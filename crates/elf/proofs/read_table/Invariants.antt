@@ -1,5 +1,6 @@
 -- `elf::read_table` meets its contract. The loop's invariant: the segments among the entries passed stand in their
 -- places, and whether one of these entries is bad is known.
+-- Assumes nothing.
 use Rattle.std.proofs.Common.{◌≡◌, ◌-◌, ◌≤◌}
 use Rattle.laws.specs.Tests.{any}
 use Rattle.elf.specs.Checks.{bad_no}

@@ -1,4 +1,5 @@
 -- `header::first_header` meets its contract. The loop's invariant: the search has passed the places before the offset.
+-- Assumes nothing.
 use Rattle.std.proofs.Common.{◌-◌, length}
 use Rattle.header.proofs.TurnLaws.{Passed}
 use Rattle.header.proofs.first_header.Given as goal

@@ -1,4 +1,5 @@
 -- `kernel::entry_outside` meets its contract. The loop's invariant: no segment passed holds the entry.
+-- Assumes nothing.
 use Rattle.std.proofs.Common.{◌≡◌, ◌-◌, ◌≤◌, false}
 use Rattle.laws.specs.Tests.{any}
 use Rattle.kernel.specs.Checks.{entry_in}

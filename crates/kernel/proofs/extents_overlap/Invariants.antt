@@ -1,4 +1,5 @@
 -- `kernel::extents_overlap` meets its contract. The loop's invariant: no extent passed shares an address with one before it.
+-- Assumes nothing.
 use Rattle.std.proofs.Common.{◌≡◌, ℕ, ◌-◌, ◌≤◌, ◌<◌, false}
 use Rattle.kernel.specs.Checks.{overlaps_earlier}
 use Rattle.kernel.proofs.extents_overlap.Given as goal

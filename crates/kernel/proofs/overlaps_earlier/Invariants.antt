@@ -1,4 +1,5 @@
 -- `kernel::overlaps_earlier` meets its contract. The loop's invariant: no extent from i on shares an address with this one.
+-- Assumes nothing.
 use Rattle.std.proofs.Common.{◌≡◌, ℕ, ◌≤◌, ◌<◌, false}
 use Rattle.kernel.specs.Checks.{overlap_no}
 use Rattle.kernel.proofs.overlaps_earlier.Given as goal

@@ -1,4 +1,5 @@
 -- `mend::lowest_magic` meets its contract. The loop's invariant: no place before the offset has the magic.
+-- Assumes nothing.
 use Rattle.std.proofs.Common.{◌-◌}
 use Rattle.mend.proofs.TurnLaws.{Tried}
 use Rattle.mend.proofs.lowest_magic.Given as goal
