@@ -86,7 +86,7 @@ fn first_header(s: &[u8]) -> Searched
 }
 
 // The header of an image: the lowest in its searched part; and how many false headers the search passed over.
-#[tactic(auto, using(crate::specs::FalseHeaderLaws::searched_cut))]
+#[tactic(auto, using(crate::proofs::FalseHeaderLaws::searched_cut))]
 pub fn find_header(image: &[u8]) -> Searched
     ensures { result ≡ searched image.now }
 {

@@ -88,7 +88,7 @@ pub fn extent(kernel: Kernel, i: usize) -> Span
 }
 
 // Whether two extents share an address.
-#[tactic(auto, using(laws::specs::TestLaws::any_none), unfolding(crate::specs::Checks::extents_overlap, crate::specs::Checks::overlaps_earlier))]
+#[tactic(auto, using(laws::proofs::TestLaws::any_none), unfolding(crate::specs::Checks::extents_overlap, crate::specs::Checks::overlaps_earlier))]
 pub fn extents_overlap(kernel: Kernel) -> bool
     requires { kernel.count ≤ max_segments }
     ensures { result ≡ extents_overlap kernel }
@@ -104,7 +104,7 @@ pub fn extents_overlap(kernel: Kernel) -> bool
 }
 
 // Whether an extent but the first shares an address with one before it.
-#[tactic(auto, using(laws::specs::TestLaws::any_none), unfolding(crate::specs::Checks::overlaps_earlier, crate::specs::Checks::overlap_no))]
+#[tactic(auto, using(laws::proofs::TestLaws::any_none), unfolding(crate::specs::Checks::overlaps_earlier, crate::specs::Checks::overlap_no))]
 fn overlaps_earlier(kernel: Kernel, j: usize) -> bool
     requires { (1 ≤ j) × (j + 1 ≤ max_segments) }
     ensures { result ≡ overlaps_earlier kernel j }
@@ -121,7 +121,7 @@ fn overlaps_earlier(kernel: Kernel, j: usize) -> bool
 }
 
 // Whether the entry lies in no segment's load bytes.
-#[tactic(auto, using(laws::specs::TestLaws::any_none_more), unfolding(crate::specs::Checks::entry_outside, crate::specs::Checks::entry_in, laws::specs::Tests::any))]
+#[tactic(auto, using(laws::proofs::TestLaws::any_none_more), unfolding(crate::specs::Checks::entry_outside, crate::specs::Checks::entry_in, laws::specs::Tests::any))]
 fn entry_outside(kernel: Kernel) -> bool
     requires { kernel.count ≤ max_segments }
     ensures { result ≡ entry_outside kernel }

@@ -28,7 +28,7 @@ pub enum Mending {
 }
 
 // Mends the checksum at the lowest magic of an image without a header, and changes no other byte.
-#[tactic(auto, using(crate::specs::PromisesLaws::change_early), unfolding(crate::specs::Mend::image_after))]
+#[tactic(auto, using(crate::proofs::PromisesLaws::change_early), unfolding(crate::specs::Mend::image_after))]
 pub fn mend(image: &mut [u8]) -> Mending
     ensures value { result ≡ mending_of image.old }
     ensures image_after { image.new ≡ image_after image.old }
@@ -54,7 +54,7 @@ pub fn number(mending: Mending) -> u32
 }
 
 // What is to be changed in an image, if anything is.
-#[tactic(auto, using(crate::specs::MendLaws::magic_early, crate::specs::MendLaws::with_header, crate::specs::MendLaws::at_magic, crate::specs::MendLaws::nowhere))]
+#[tactic(auto, using(crate::proofs::MendLaws::magic_early, crate::proofs::MendLaws::with_header, crate::proofs::MendLaws::at_magic, crate::proofs::MendLaws::nowhere))]
 fn decide(image: &[u8]) -> Mending
     ensures { result ≡ mending_of image.now }
 {

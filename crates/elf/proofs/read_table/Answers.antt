@@ -2,7 +2,7 @@
 -- places, and whether one of these entries is bad is known.
 -- Assumes nothing.
 use Rattle.std.proofs.Common.{refl, sym, arith, rules}
-use Rattle.laws.specs.TestLaws.{any-zero}
+use Rattle.laws.proofs.TestLaws.{any-zero}
 use Rattle.elf.proofs.TurnLaws.{gathered_none, gathered_one, gathered_on, bad_more, gathered_all}
 use Rattle.elf.proofs.read_table.Goals as goal
 use Rattle.elf.proofs.read_table.Goals.{then-is_segment, else-is_segment}

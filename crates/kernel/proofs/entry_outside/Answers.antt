@@ -1,7 +1,7 @@
 -- `kernel::entry_outside` meets its contract. The loop's invariant: no segment passed holds the entry.
 -- Assumes nothing.
 use Rattle.std.proofs.Common.{sym, ap, not, arith}
-use Rattle.laws.specs.TestLaws.{any_here}
+use Rattle.laws.proofs.TestLaws.{any_here}
 use Rattle.kernel.specs.Checks.{entry_in, entry_outside}
 use Rattle.kernel.proofs.entry_outside.Goals as goal
 

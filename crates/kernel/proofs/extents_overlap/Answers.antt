@@ -1,7 +1,7 @@
 -- `kernel::extents_overlap` meets its contract. The loop's invariant: no extent passed shares an address with one before it.
 -- Assumes nothing.
 use Rattle.std.proofs.Common.{sym, arith}
-use Rattle.laws.specs.TestLaws.{any_here}
+use Rattle.laws.proofs.TestLaws.{any_here}
 use Rattle.kernel.specs.Checks.{overlaps_earlier, extents_overlap}
 use Rattle.kernel.proofs.extents_overlap.Goals as goal
 

@@ -1,7 +1,7 @@
 -- `kernel::overlaps_earlier` meets its contract. The loop's invariant: no extent from i on shares an address with this one.
 -- Assumes nothing.
 use Rattle.std.proofs.Common.{◌-◌, sym, arith}
-use Rattle.laws.specs.TestLaws.{any_here}
+use Rattle.laws.proofs.TestLaws.{any_here}
 use Rattle.kernel.specs.Checks.{overlap_no, overlaps_earlier}
 use Rattle.kernel.proofs.overlaps_earlier.Goals as goal
 
