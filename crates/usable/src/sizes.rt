@@ -29,6 +29,7 @@ fn usable_run(map: MemoryMap, start: PhysAddr) -> u64
 }
 
 // The size of lower memory in whole KiB.
+#[tactic(auto, unfolding(crate::specs::Sizes::mem_lower))]
 pub fn mem_lower(map: MemoryMap) -> u32
     ensures { result ≡ mem_lower map }
 {
