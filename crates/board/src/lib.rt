@@ -22,6 +22,7 @@ pub struct Board {
 }
 
 // Whether the address is open: usable, inside the window, and not below the end of the BIOS data area.
+#[tactic(auto, using(std::proofs::lemmas::Bool::Decides::nat_tests), unfolding(crate::specs::Open::is_open))]
 pub fn is_open(board: Board, a: PhysAddr) -> bool
     ensures { result ≡ is_open board a.0 }
 {
@@ -36,6 +37,7 @@ pub fn is_open(board: Board, a: PhysAddr) -> bool
 
 // The nearest edge of the window, the BIOS data area or a pair past x, at most the window's end: up to it all addresses are
 // open, or none is.
+#[tactic(auto, unfolding(crate::specs::OpenEdge::open_edge))]
 pub fn open_edge(board: Board, x: PhysAddr) -> PhysAddr
     ensures { result.0 ≡ open_edge board x.0 }
 {
