@@ -25,6 +25,7 @@ fn is_taken(taken: Spans, a: PhysAddr) -> bool
 }
 
 // Whether the address is free.
+#[tactic(auto, using(std::proofs::lemmas::Bool::Decides::nat_tests), unfolding(crate::specs::Free::is_free))]
 pub(crate) fn is_free(board: Board, taken: Spans, a: PhysAddr) -> bool
     ensures { result ≡ is_free (is_open board) taken a.0 }
 {
@@ -50,6 +51,7 @@ fn taken_edge(taken: Spans, x: PhysAddr, e: PhysAddr) -> PhysAddr
 }
 
 // The nearest edge of the board or a span taken past x: up to it all addresses are free, or none is.
+#[tactic(auto, unfolding(crate::specs::FreeEdge::free_edge))]
 pub(crate) fn free_edge(board: Board, taken: Spans, x: PhysAddr) -> PhysAddr
     ensures { result.0 ≡ free_edge board taken x.0 }
 {

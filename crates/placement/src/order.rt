@@ -10,6 +10,7 @@ use address::{PhysAddr, Span};
 use board::Board;
 
 // The spans with one more.
+#[tactic(auto, unfolding(crate::specs::Order::with_span))]
 fn with_span(spans: Spans, span: Span) -> Spans
     requires { spans.count < max_spans }
     ensures { result ≡ with_span spans span }
