@@ -22,7 +22,7 @@ pub struct Board {
 }
 
 // Whether the address is open: usable, inside the window, and not below the end of the BIOS data area.
-#[tactic(auto, using(std::proofs::lemmas::Bool::Decides::nat_tests), unfolding(crate::specs::Open::is_open))]
+#[tactic(auto, unfolding(crate::specs::Open::is_open))]
 pub fn is_open(board: Board, a: PhysAddr) -> bool
     ensures { result ≡ is_open board a.0 }
 {

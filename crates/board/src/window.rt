@@ -8,7 +8,7 @@ use address::{PhysAddr, Span};
 use answer::Answer;
 
 // Check 4 of a window of len bytes from the address first on. A window longer than the top is refused before the sum is made.
-#[tactic(auto, using(std::proofs::lemmas::Bool::Decides::nat_tests), unfolding(crate::specs::Window::window_checks, laws::specs::Checks::first_of))]
+#[tactic(auto, unfolding(crate::specs::Window::window_checks, laws::specs::Checks::first_of))]
 pub fn check_window(first: u32, len: usize) -> Answer
     ensures { result ≡ first_of (window_checks first len) Answer.Load }
 {

@@ -92,7 +92,7 @@ pub fn parse(m: &[u8]) -> ParsedMap
 }
 
 // Whether the pair at `at` is too small or runs past the end.
-#[tactic(auto, using(std::proofs::lemmas::Bool::Decides::nat_tests), unfolding(crate::specs::Map::too_small, crate::specs::Map::past_end, crate::specs::Pairs::next_offset))]
+#[tactic(auto, unfolding(crate::specs::Map::too_small, crate::specs::Map::past_end, crate::specs::Pairs::next_offset))]
 fn broken(m: &[u8], at: usize) -> bool
     requires { at ≤ length m.now }
     ensures { result ≡ too_small m.now at || past_end m.now at }

@@ -25,7 +25,7 @@ fn is_taken(taken: Spans, a: PhysAddr) -> bool
 }
 
 // Whether the address is free.
-#[tactic(auto, using(std::proofs::lemmas::Bool::Decides::nat_tests), unfolding(crate::specs::Free::is_free))]
+#[tactic(auto, unfolding(crate::specs::Free::is_free))]
 pub(crate) fn is_free(board: Board, taken: Spans, a: PhysAddr) -> bool
     ensures { result ≡ is_free (is_open board) taken a.0 }
 {

@@ -9,7 +9,7 @@ use address::PhysAddr;
 use board::Board;
 
 // Whether the item, placed at a, ends at or below its ceiling.
-#[tactic(auto, using(std::proofs::lemmas::Bool::Decides::nat_tests), unfolding(crate::specs::Lowest::under_ceiling))]
+#[tactic(auto, unfolding(crate::specs::Lowest::under_ceiling))]
 fn under_ceiling(item: Item, a: PhysAddr) -> bool
     ensures { result ≡ under_ceiling item a.0 }
 {

@@ -18,7 +18,7 @@ const RAM: u64 = 1;
 pub const ADDRESS_SPACE: u64 = 0x100000000;
 
 // Whether the pair covers the address.
-#[tactic(auto, using(std::proofs::lemmas::Bool::Decides::nat_tests), unfolding(crate::specs::Usable::covers, address::specs::Address::inside))]
+#[tactic(auto, unfolding(crate::specs::Usable::covers, address::specs::Address::inside))]
 fn pair_covers(pair: Pair, a: PhysAddr) -> bool
     ensures { result ≡ covers pair a.0 }
 {
@@ -53,7 +53,7 @@ pub fn is_usable(map: MemoryMap, a: PhysAddr) -> bool
 }
 
 // The nearest edge of a pair past x and before e, else e.
-#[tactic(auto, using(std::proofs::lemmas::Bool::Decides::nat_tests), unfolding(edge::specs::Edge::span_edge, edge::specs::Edge::nearest))]
+#[tactic(auto, unfolding(edge::specs::Edge::span_edge, edge::specs::Edge::nearest))]
 fn pair_edge(pair: Pair, x: PhysAddr, e: PhysAddr) -> PhysAddr
     ensures { result.0 ≡ span_edge pair.base (pair.base + pair.length) x.0 e.0 }
 {
