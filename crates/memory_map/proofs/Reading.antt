@@ -11,7 +11,7 @@ use Rattle.std.proofs.Math.Numerals.{add-one}
 use native.Mathlib.Omega.{arith}
 use Rattle.std.proofs.Math.ListN.{length, set}
 use Rattle.laws.specs.Table.{listed, table}
-use Rattle.laws.specs.TableLaws.{table_more}
+use Rattle.laws.proofs.TableLaws.{table_more}
 use Rattle.answer.specs.declared.Answer.TheVariants.{Load}
 use Rattle.memory_map.specs.declared.Pair.{Pair}
 use Rattle.memory_map.specs.declared.MemoryMap.{MemoryMap}

@@ -1,12 +1,12 @@
 -- `board::all_open` meets its contract.
 use Rattle.std.proofs.Common.{◌≡◌, sym, ◌∙◌, true, ℕ, ◌<◌, arith}
-use Rattle.laws.specs.TestLaws.{all_intro, all_not}
+use Rattle.laws.proofs.TestLaws.{all_intro, all_not}
 use Rattle.edge.specs.PassLaws.{AllPass, pass_start, pass_on}
 use Rattle.board.specs.declared.Board.{Board}
 use Rattle.board.specs.Open.{is_open}
 use Rattle.board.specs.OpenEdge.{open_edge}
-use Rattle.board.specs.OpenLaws.{open_is}
-use Rattle.board.specs.OpenEdgeLaws.{open_edge_at}
+use Rattle.board.proofs.OpenLaws.{open_is}
+use Rattle.board.proofs.OpenEdgeLaws.{open_edge_at}
 use Rattle.board.proofs.all_open.Goals as goal
 
 -- x is open, so the edge lies past it, and what lies before the edge is open too

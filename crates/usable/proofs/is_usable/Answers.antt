@@ -1,6 +1,6 @@
 -- `usable::is_usable` meets its contract.
 use Rattle.std.proofs.Common.{◌≡◌, sym, ◌∙◌, arith, rules, length}
-use Rattle.laws.specs.TestLaws.{any-zero}
+use Rattle.laws.proofs.TestLaws.{any-zero}
 use Rattle.memory_map.specs.Map.{max_pairs}
 use Rattle.usable.proofs.ScanLaws.{usable_covered, usable_missed, usable_barred, usable_above, usable_end}
 use Rattle.usable.proofs.is_usable.Goals as goal

@@ -1,7 +1,7 @@
 -- `placement::free::is_taken` meets its contract.
 use Rattle.std.proofs.Common.{◌≡◌, sym, ◌∙◌, arith, rules, length}
-use Rattle.laws.specs.CheckLaws.{or_none}
-use Rattle.laws.specs.TestLaws.{any-zero, any_more, any_here}
+use Rattle.laws.proofs.CheckLaws.{or_none}
+use Rattle.laws.proofs.TestLaws.{any-zero, any_more, any_here}
 use Rattle.placement.specs.Free.{max_spans, taken_by, is_taken}
 use Rattle.placement.proofs.TakenLaws.{taken_end}
 use Rattle.placement.proofs.free.is_taken.Goals as goal

@@ -1,6 +1,6 @@
 -- `placement::lowest::lowest_place` meets its contract.
 use Rattle.std.proofs.Common.{sym, ◌∙◌, arith}
-use Rattle.placement.specs.StepLaws.{round_small, step_start, step_on, step_past, step_found, step_end, step_ceiling}
+use Rattle.placement.proofs.StepLaws.{round_small, step_start, step_on, step_past, step_found, step_end, step_ceiling}
 use Rattle.placement.proofs.lowest.lowest_place.Goals as goal
 
 pub loop-board-init : goal.loop-board-init

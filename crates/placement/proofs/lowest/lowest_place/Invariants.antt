@@ -1,6 +1,6 @@
 -- `placement::lowest::lowest_place` meets its contract. The loop's invariant: what `Tried` says of the candidate a and the address x reached.
 use Rattle.std.proofs.Common.{◌-◌}
-use Rattle.placement.specs.StepLaws.{Walked}
+use Rattle.placement.proofs.StepLaws.{Walked}
 use Rattle.placement.proofs.lowest.lowest_place.Given as goal
 
 abbrev pub invariant-loop-board : goal.invariant-loop-board

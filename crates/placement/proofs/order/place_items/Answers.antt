@@ -2,11 +2,11 @@
 use Rattle.std.proofs.Common.{◌≡◌, sym, ap, ◌∙◌, ◌+◌, arith}
 use Rattle.std.proofs.Math.Nat.{sub-zero}
 use Rattle.address.specs.declared.Span.{Span}
-use Rattle.board.specs.OpenLaws.{open_below}
+use Rattle.board.proofs.OpenLaws.{open_below}
 use Rattle.placement.specs.declared.Spans.{Spans}
-use Rattle.placement.specs.LowestLaws.{place_end}
+use Rattle.placement.proofs.LowestLaws.{place_end}
 use Rattle.placement.specs.Order.{with_span, placed_from, place_items}
-use Rattle.placement.specs.OrderLaws.{with_count, from_at, from_none, from_end}
+use Rattle.placement.proofs.OrderLaws.{with_count, from_at, from_none, from_end}
 use Rattle.placement.proofs.order.place_items.Goals as goal
 
 -- with one more span there is one more

@@ -1,7 +1,7 @@
 -- `usable::sizes::mem_upper` meets its contract: a run below 2^32 is short enough for 32 bits.
 use Rattle.std.proofs.Common.{ℕ, zero, suc, ◌-◌, ◌/◌, ◌≤◌, Bool, ap, ⊎_elim, arith}
 use Rattle.laws.specs.Tests.{run}
-use Rattle.laws.specs.TestLaws.{true_or_false}
+use Rattle.laws.proofs.TestLaws.{true_or_false}
 use Rattle.address.specs.Address.{floor}
 use Rattle.usable.specs.Usable.{address_space, is_usable}
 use Rattle.usable.specs.Sizes.{kib, mem_upper}

@@ -1,12 +1,12 @@
 -- `usable::sizes::usable_run` meets its contract.
 use Rattle.std.proofs.Common.{◌≡◌, sym, ◌∙◌, ℕ, ◌+◌, ◌-◌, ◌<◌, ◌≤◌, Bool, true, false, arith}
 use Rattle.laws.specs.Tests.{run}
-use Rattle.laws.specs.TestLaws.{run_is}
+use Rattle.laws.proofs.TestLaws.{run_is}
 use Rattle.edge.specs.PassLaws.{AllPass, pass_on}
 use Rattle.memory_map.specs.declared.MemoryMap.{MemoryMap}
 use Rattle.usable.specs.MapEdge.{map_edge}
 use Rattle.usable.specs.Usable.{address_space, is_usable}
-use Rattle.usable.specs.MapEdgeLaws.{map_edge_at}
+use Rattle.usable.proofs.MapEdgeLaws.{map_edge_at}
 use Rattle.usable.proofs.sizes.usable_run.Goals as goal
 
 -- a run that has come to x, where it ends
