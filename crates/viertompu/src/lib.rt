@@ -1,4 +1,4 @@
-// The C interface: a load, and its plan as words; a mend is in `mending`.
+// A load, and its plan as words; a mend is in `mending`. The crate `viertompu_c` offers both to C.
 #![tactic(auto)]
 
 ghost use Rattle.std.specs.Prelude.{◌≡◌, length};
@@ -14,7 +14,7 @@ use decision::Decision;
 use kernel::{Kernel, MAX_SEGMENTS};
 use submission::MAX_MODULES;
 
-mod mending;
+pub mod mending;
 
 // How many words a plan has.
 pub const WORDS: usize = 96;
@@ -54,8 +54,7 @@ const WORD_RANGE: u64 = 0x100000000;
 
 // Loads a submission into the window, or refuses it and leaves the window alone; gives the number of the answer and writes
 // the whole plan.
-#[unsafe(no_mangle)]
-pub extern "C" fn viertompu_load<'a>(
+pub fn viertompu_load<'a>(
     submission: &'a [u8],
     operator: &'a [u8],
     map: &[u8],

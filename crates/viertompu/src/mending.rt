@@ -1,4 +1,4 @@
-// The C interface: a mend, and its answer as words.
+// A mend, and its answer as words.
 ghost use Rattle.std.specs.Prelude.{◌≡◌};
 ghost use Rattle.mend.specs.Mend.{mending_of, image_after, mend_number};
 ghost use Rattle.viertompu.specs.MendWords.{mend_words};
@@ -18,8 +18,7 @@ pub const OLD_CHECKSUM: usize = 2;
 pub const NEW_CHECKSUM: usize = 3;
 
 // Mends the checksum at the lowest magic of an image without a header; gives the number of the answer and writes all its words.
-#[unsafe(no_mangle)]
-pub extern "C" fn viertompu_mend(image: &mut [u8], report: &mut [u32; MEND_WORDS]) -> u32
+pub fn viertompu_mend(image: &mut [u8], report: &mut [u32; MEND_WORDS]) -> u32
     ensures value { result ≡ mend_number (mending_of image.old) }
     ensures report_after { report.new ≡ mend_words (mending_of image.old) }
     ensures image_after { image.new ≡ image_after image.old }
@@ -30,6 +29,7 @@ pub extern "C" fn viertompu_mend(image: &mut [u8], report: &mut [u32; MEND_WORDS
 }
 
 // Writes the words of an answer: zeros, where nothing was mended.
+#[tactic(auto, unfolding(crate::specs::MendWords::mend_words))]
 fn write_mend(report: &mut [u32; MEND_WORDS], mending: Mending)
     ensures { report.new ≡ mend_words mending }
 {
