@@ -5,7 +5,7 @@
 --     wrote_nothing                  no text
 --     wrote_behind, wrote_row        two texts one behind the other, and a row more
 -- Assumes nothing.
-use Rattle.std.specs.Prelude.{◌≡◌, refl, List, [], ◌∷◌, ◌++◌, ℕ, zero, suc, ◌+◌, ◌*◌, ◌-◌, ◌/◌, ◌%◌, ◌≤◌, length, get_or}
+use Rattle.std.specs.Prelude.{◌≡◌, refl, List, [], ◌∷◌, ◌++◌, ℕ, zero, suc, ◌+◌, ◌*◌, ◌/◌, ◌%◌, ◌≤◌, length, get_or}
 use Rattle.std.proofs.Common.{ap, sym, ◌∙◌, add-zero, arith, length-append, length-drop}
 use Rattle.buffer.specs.PatchedLaws.{patched-nil, patched-append}
 use Rattle.viertompu.specs.Joined.{joined}
