@@ -1,12 +1,13 @@
 // Reviews a submission from standard input: loads it on a fixed board and prints where everything lies, or the refusal.
 #![tactic(auto)]
 
-ghost use Rattle.std.specs.Prelude.{◌≡◌, ◌≤◌, length, take};
+ghost use Rattle.std.specs.Prelude.{◌≡◌, ◌≤◌, length, take, IfOk, IfSome};
 ghost use Rattle.report.specs.Text.{Wrote};
 ghost use Rattle.report.specs.Report.{max_report};
 ghost use Rattle.review.specs.Review.{review_of, printed_for};
 
-use libc::{STDIN_FILENO, STDOUT_FILENO};
+use std::io;
+use std::io::{Read, Write};
 
 // A longer input is not reviewed.
 const MAX_INPUT: usize = 12288;
@@ -26,12 +27,29 @@ const FIRST: u32 = 0x100000;
 
 const WINDOW: usize = 49152;
 
-fn main() {
+fn main(rt: HostRuntime) -> io::Result<()> {
     let mut input = [0; READ];
-    let n = io::read_full(STDIN_FILENO, &mut input);
+    let n = read_full(&mut rt.stdin(), &mut input)?;
     let mut text = [0; report::MAX_REPORT];
     let end = review(&input, n, &mut text);
-    io::write_all(STDOUT_FILENO, &text[..end]);
+    rt.stdout().write_all(&text[..end])
+}
+
+// Reads until the buffer is full or the input ends, and gives how many bytes were read. They stand at the buffer's start and are
+// what the input begins with, as far as a clause can know its bytes.
+fn read_full<R: Read>(input: &mut R, buffer: &mut [u8]) -> io::Result<usize>
+    ensures upper_bound { IfOk result (λ n. n ≤ length buffer.new) }
+    ensures bytes { IfOk result (λ n. IfSome (R.remaining input.old) (λ xs. take n buffer.new ≡ take (length buffer.new) xs)) }
+{
+    let mut n = 0;
+    while n < buffer.len() {
+        let more = input.read(&mut buffer[n..])?;
+        if more == 0 {
+            return Ok(n);
+        }
+        n += more;
+    }
+    Ok(n)
 }
 
 // Writes what is printed for the n bytes that were read, and gives its length.
