@@ -1,7 +1,7 @@
 -- The third promise: the kernel, and each item at its lowest place beside it, no room exactly where there is none.
 --     on_memory    wherever none before 15 holds
 -- Assumes nothing.
-use Rattle.std.specs.Prelude.{◌≡◌, true, false, Bool, cond, ◌↔◌, ℕ, ◌+◌, ◌-◌, ◌≤◌, ◌<◌}
+use Rattle.std.specs.Prelude.{◌≡◌, true, false, Bool, cond, ◌↔◌, ℕ, ◌+◌, ◌≤◌, ◌<◌}
 use Rattle.std.proofs.Math.Path.{refl, sym, ap}
 use Rattle.std.proofs.Common.{◌∙◌, subst, arith}
 use mathlib.Core.List.{List}
