@@ -1,8 +1,8 @@
 -- Physical addresses.                                                               rule: ADDRESSES
 --     page, word, boundary_of    the boundaries that an item may have
---     floor, top                where placing begins, and where a window ends at the latest
---     is_multiple, round_up       meeting a boundary, and rounding up to it
---     inside                    lying in a span
+--     floor, top                 where placing begins, and where a window ends at the latest
+--     is_multiple, round_up      meeting a boundary, and rounding up to it
+--     inside                     lying in a span
 -- Assumes nothing.
 use Rattle.std.specs.Prelude.{Bool, true, false, cond, ◌&&◌, ℕ, ◌+◌, ◌-◌, ◌%◌, eqb, leb, ltb}
 

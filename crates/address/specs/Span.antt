@@ -1,7 +1,7 @@
 -- Spans of addresses.
 --     no_span, span_no    a span of zeros, and the span of an index
---     overlap           two spans share an address
---     Holds             the span holds the address
+--     overlap             two spans share an address
+--     Holds               the span holds the address
 -- Assumes nothing.
 use Rattle.std.specs.Prelude.{Bool, ◌&&◌, List, ℕ, ◌≤◌, ◌<◌, ltb, get_or}
 use Rattle.address.specs.declared.Span.{Span}

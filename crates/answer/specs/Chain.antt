@@ -1,7 +1,7 @@
 -- The order of checks.                                                                rule: ANSWERS
 --     check_order    the numbers of the refusals in the order of checks
 --     place_in       how many numbers stand before a number
---     Before        of two refusals, which is checked first
+--     Before         of two refusals, which is checked first
 -- Assumes nothing.
 use Rattle.std.specs.Prelude.{cond, List, [], ◌∷◌, ℕ, suc, ◌<◌, eqb}
 

@@ -1,15 +1,15 @@
 -- Stages of checks, one after the other: a chain answers with its first refusal.
---     refuses, refuses_append                   every check of a chain has a refusal for its answer
---     chain_append                              where a stage does not refuse, the next one decides
---     or_else_first, -second, -same, -load      laws of the first of two answers that refuses
---     passes_is, load_is                        a stage passes exactly where its answer is a load; that answer is Load
---     check_passed                              in a chain that ends in a load no check applied
---     numbers, distinct                         the numbers of a chain, each given once
---     applies_other, applies_front              a number that no check has, and one of a chain's first part
---     applies_for, answer_for                     whether the check of a number applies, and its answer
---     first_answer, answer_number               the first check that applies gives its answer
---     number_first                              a number is given only where its check is the first that applies
---     none_given, none_applies                  0 is given exactly where none applies
+--     refuses, refuses_append                 every check of a chain has a refusal for its answer
+--     chain_append                            where a stage does not refuse, the next one decides
+--     or_else_first, -second, -same, -load    laws of the first of two answers that refuses
+--     passes_is, load_is                      a stage passes exactly where its answer is a load; that answer is Load
+--     check_passed                            in a chain that ends in a load no check applied
+--     numbers, distinct                       the numbers of a chain, each given once
+--     applies_other, applies_front            a number that no check has, and one of a chain's first part
+--     applies_for, answer_for                 whether the check of a number applies, and its answer
+--     first_answer, answer_number             the first check that applies gives its answer
+--     number_first                            a number is given only where its check is the first that applies
+--     none_given, none_applies                0 is given exactly where none applies
 -- Assumes nothing.
 use Rattle.std.specs.Prelude.{◌≡◌, refl, Bool, true, false, cond, not, ◌&&◌, List, [], ◌∷◌, ◌++◌, ℕ, suc, ◌≤◌, ◌<◌, length}
 use Rattle.std.proofs.Common.{sym, ap, ◌∙◌, arith}

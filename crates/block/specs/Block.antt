@@ -1,10 +1,10 @@
 -- The information block as one list of bytes.                                           rule: BLOCK
 --     flags_offset to boot_loader_name_offset, structure_size, module_entry_size    where the fields of the structure stand, and how long the parts are
---     structure_words                             the 22 words of the structure, from its fields
---     BootModule, Contents                       what a block says
---     map_offset to strings_offset, block_length    where its parts stand and how long it is, by lengths alone
---     structure_of, entries, texts, block_of       its bytes
---     contents_of                                 what the block of a load says
+--     structure_words                                                               the 22 words of the structure, from its fields
+--     BootModule, Contents                                                          what a block says
+--     map_offset to strings_offset, block_length                                    where its parts stand and how long it is, by lengths alone
+--     structure_of, entries, texts, block_of                                        its bytes
+--     contents_of                                                                   what the block of a load says
 -- Assumes nothing.
 use Rattle.std.specs.Prelude.{List, [], ◌∷◌, ◌++◌, map, ℕ, zero, suc, ◌+◌, ◌*◌, length}
 use Rattle.laws.specs.Table.{listed}

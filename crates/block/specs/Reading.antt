@@ -1,8 +1,8 @@
 -- What a reader finds in an information block.
 --     lengths_of, boot_module_no, string_address    the modules' strings by length, a module, and where its string stands
---     words_of, field_offsets                     the words of the structure and the entries, and where the fields stand
---     FieldsRead, EntryRead, TextStands         the fields, an entry and a text, read from bytes
---     BlockSmall                                every number of a block that is written as a word is below 2^32
+--     words_of, field_offsets                       the words of the structure and the entries, and where the fields stand
+--     FieldsRead, EntryRead, TextStands             the fields, an entry and a text, read from bytes
+--     BlockSmall                                    every number of a block that is written as a word is below 2^32
 -- Assumes nothing.
 use Rattle.std.specs.Prelude.{◌≡◌, List, [], ◌∷◌, ◌++◌, map, ℕ, ◌+◌, ◌^◌, ◌≤◌, ◌<◌, length, get_or, take, drop}
 use Rattle.number.specs.Number.{number_at}

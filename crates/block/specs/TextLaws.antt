@@ -1,11 +1,11 @@
 -- Laws of the parts of an information block: texts, entries, and how they grow by one.
 --     size_none, size_some, size_low, size_high    the bytes of a text and its zero
 --     address_none, address_some, flags_some       what stands for a text in a field
---     text_none, text_some, length-text_bytes       a text's bytes
---     texts_size_more, texts_more, entries_more     one text, one entry more
---     length_entries, length-string_lengths         how many there are
+--     text_none, text_some, length-text_bytes      a text's bytes
+--     texts_size_more, texts_more, entries_more    one text, one entry more
+--     length_entries, length-string_lengths        how many there are
 --     strings_more, strings_fewer, strings_room    the strings of a layout
---     block_length_lem                                 the length of a block with the first n strings
+--     block_length_lem                             the length of a block with the first n strings
 -- Assumes nothing.
 use Rattle.std.specs.Prelude.{◌≡◌, refl, List, [], ◌∷◌, ◌++◌, map, ℕ, zero, suc, ◌+◌, ◌*◌, ◌≤◌, ◌<◌, length}
 use Rattle.std.proofs.Math.Path.{ap}

@@ -1,6 +1,6 @@
 -- What writing a block rests on, and what is written of it.
---     entries_of, strings_of         the entries and the strings of the first n modules
---     parts_size                    the bytes behind the entries
+--     entries_of, strings_of       the entries and the strings of the first n modules
+--     parts_size                   the bytes behind the entries
 --     SpansLow, StringsIn, Room    what the loader has shown before a block is written
 --     PartsStand                   offsets are those of the parts
 -- Assumes nothing.

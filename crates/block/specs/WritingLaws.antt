@@ -1,5 +1,5 @@
 -- Laws of the block of a load.
---     entry_texts, length_strings                                 the lengths of its strings
+--     entry_texts, length_strings                                the lengths of its strings
 --     length_loaded, loaded_strings, loaded_entries, block_is    the block by the layout and the spans
 --     load_module, length_load, load_small                       what it says of a module, its length, and that its words are below 2^32
 --     strings_bound, block_bound                                 how long it is at most

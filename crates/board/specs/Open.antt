@@ -1,6 +1,6 @@
 -- Which addresses are open.                                                              rule: OPEN
 --     bios_data_end    below it lie the interrupt vectors and the BIOS data area
---     is_open         the address is open
+--     is_open          the address is open
 -- Assumes nothing.
 use Rattle.std.specs.Prelude.{Bool, ◌&&◌, ℕ, leb}
 use Rattle.address.specs.Address.{inside}

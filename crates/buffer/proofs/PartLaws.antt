@@ -2,7 +2,9 @@
 -- Assumes nothing.
 use mathlib.Core.Path.{◌≡◌, refl, ap, sym, ◌∙◌}
 use mathlib.Core.List.{List, [], ◌∷◌, ◌++◌, append-nil}
-use Prim.Native.Nat.{ℕ, ◌+◌, ◌-◌, ◌≤◌, min}
+use Prim.Native.Nat.{ℕ, ◌+◌, ◌-◌, ◌≤◌, ◌<◌, min}
+use Rattle.std.proofs.Common.{get_or}
+use Rattle.std.proofs.lemmas.List.{take_more}
 use native.Mathlib.Nat.{zero-add}
 use native.Mathlib.Omega.{arith}
 use lib.ListN.{length, set, take, drop, length-take, length-drop, length-replicate, replicate-append-replicate, drop_of_length-le}
@@ -28,6 +30,25 @@ module _ (d : List ℕ) (at n : ℕ) (s : List ℕ) (e : n ≡ min (length s) (l
       let l : length (take n s) ≡ n = length-take-le n s (omega arith) in
       let k : length (take (at + n - at) (drop at d)) ≤ length (take n s) = simp (length-take, length-drop) (omega arith) in
       rw (take-length, drop_of_length-le (take (at + n - at) (drop at d)) k) (append-nil (take n s))
+
+  -- the same part after n bytes are written over it
+  pub part_filled : 1 ≤ n → patched (take (at + n - at) (drop at d)) 0 (take n s) ≡ take n s
+  part_filled h =
+      let l : length (take n s) ≡ n = length-take-le n s (omega arith) in
+      let k : length (take (at + n - at) (drop at d)) ≡ n = simp (length-take, length-drop) (omega arith) in
+      patched_whole (take (at + n - at) (drop at d)) (take n s) (omega arith)
+      ∙ ap (λ (m : ℕ). take m (take n s)) k
+      ∙ take_all n (take n s) (omega arith)
+
+-- one byte more of a copy
+pub copied_more : (d s : List ℕ) (i : ℕ) → i < length s → set (patched d 0 (take i s)) i (get_or s i 0) ≡ patched d 0 (take (i + 1) s)
+copied_more d s i h =
+    let l : 0 + length (take i s) ≡ i = rw zero-add (length-take-le i s (omega arith)) in
+    let x : ℕ = get_or s i 0 in
+    patched_one (patched d 0 (take i s)) i x
+    ∙ ap (λ (j : ℕ). patched (patched d 0 (take i s)) j (x ∷ [])) (sym l)
+    ∙ patched-append d 0 (take i s) (x ∷ [])
+    ∙ ap (patched d 0) (sym (take_more s i 0 h))
 
 -- zeros, cut to those that have room
 pub take-zeros : (n count : ℕ) → n ≤ count → take n (zeros count) ≡ zeros n

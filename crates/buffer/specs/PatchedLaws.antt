@@ -1,13 +1,13 @@
 -- Laws of a patched buffer, for any buffer, offset and bytes.
---     length-patched                             a write keeps the length
---     patched-nil, patched_past, patched_cut     nothing to write, no room at all, room for a part
---     patched_whole, patched_one                 a write over the whole buffer, of one byte
---     patched_split                              a write that fits, as three parts
---     patched-append                             two writes, one behind the other, are one
---     patched_swap                               writes that share no byte may change places
---     take-patched, drop-patched, drop_inside    a part of a patched buffer is that part, patched
---     part_inside                                a part inside the write is the same part of its bytes
---     get_or_before, get_or_inside, get_or_behind      which byte stands where
+--     length-patched                                 a write keeps the length
+--     patched-nil, patched_past, patched_cut         nothing to write, no room at all, room for a part
+--     patched_whole, patched_one                     a write over the whole buffer, of one byte
+--     patched_split                                  a write that fits, as three parts
+--     patched-append                                 two writes, one behind the other, are one
+--     patched_swap                                   writes that share no byte may change places
+--     take-patched, drop-patched, drop_inside        a part of a patched buffer is that part, patched
+--     part_inside                                    a part inside the write is the same part of its bytes
+--     get_or_before, get_or_inside, get_or_behind    which byte stands where
 -- Assumes nothing.
 use Rattle.std.specs.Prelude.{◌≡◌, refl, List, [], ◌∷◌, ◌++◌, ℕ, zero, suc, ◌+◌, ◌-◌, ◌≤◌, ◌<◌, min, length, get_or, set, take, drop}
 use Rattle.std.proofs.Common.{ap, sym, ◌∙◌, suc-add, add-suc, zero-add, arith, length-take, length-drop}

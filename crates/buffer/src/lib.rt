@@ -12,7 +12,7 @@ pub fn write_bytes(dst: &mut [u8], at: usize, src: &[u8])
     let n = room(dst.len(), at, src.len());
     if 0 < n {
         let end = at + n;
-        dst[at..end].copy_from_slice(&src[..n]);
+        copy(&src[..n], &mut dst[at..end]);
     }
 }
 
@@ -38,6 +38,16 @@ fn room(len: usize, at: usize, count: usize) -> usize
         return len - at;
     }
     count
+}
+
+// Copies the bytes of src to the start of dst, as many as have room.
+fn copy(src: &[u8], dst: &mut [u8])
+    ensures { dst.new ≡ patched dst.old 0 src.now }
+{
+    let n = room(dst.len(), 0, src.len());
+    for i in 0..n {
+        dst[i] = src[i];
+    }
 }
 
 // Makes every byte zero.

@@ -1,6 +1,6 @@
 -- A load that can be computed: placing and the sizes of memory go from edge to edge instead of address by address.
 --     model_in, model_decision, decision_computes    the places and the decision
---     model_memory, memory_computes                 the window after a decision
+--     model_memory, memory_computes                  the window after a decision
 -- Assumes nothing.
 use Rattle.std.specs.Prelude.{◌≡◌, Bool, true, false, cond, List, [], ◌∷◌, ◌++◌, ℕ, ◌+◌, ◌-◌, ◌≤◌}
 use Rattle.std.proofs.Math.Path.{refl, ap}

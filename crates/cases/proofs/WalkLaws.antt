@@ -1,5 +1,5 @@
 -- Placing as a function that computes, for examples: it gives what the definitions give.
---     computed, place_computes       one item, by the walk from edge to edge
+--     computed, place_computes        one item, by the walk from edge to edge
 --     computed_from, items_compute    items in order
 -- Assumes nothing.
 use Rattle.std.specs.Prelude.{◌≡◌, true, false, cond, leb, ltb}

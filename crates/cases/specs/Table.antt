@@ -1,8 +1,8 @@
 -- Worked examples: what is lent, and what must come out of it, in the plan and in a window of zeros.
 --     Input, lent_of, window_of    what is lent: a submission, a memory map and a window                rule: REVIEW
---     Outcome, columns           what comes out: the answer, the plan, and what the kernel is handed and reads
---     refusal                    what comes out of a refusal
---     outcome_of                  what the definitions give
+--     Outcome, columns             what comes out: the answer, the plan, and what the kernel is handed and reads
+--     refusal                      what comes out of a refusal
+--     outcome_of                   what the definitions give
 --     Row, long_rows, short_rows, rows
 --                                the examples, written `input yields outcome`
 -- The columns stand here as plain numbers, so that a number that is wrong in a definition and in the code alike shows.

@@ -1,8 +1,8 @@
 -- What an accepted operator's line and the command line in force keep.
---     operator_refuses                          the check on it refuses
---     operator_length, operator_text            an good_submission operator's line
+--     operator_refuses                                                                                    the check on it refuses
+--     operator_length, operator_text                                                                      an good_submission operator's line
 --     line_refused_submission, line_refused_operator, line_of_operator, line_of_submission, line_cases    which line is in force
---     line_length_lem, line_text_lem, line_zero_free    the line in force, whatever was lent
+--     line_length_lem, line_text_lem, line_zero_free                                                      the line in force, whatever was lent
 -- Assumes nothing.
 use Rattle.std.specs.Prelude.{◌≡◌, false, not, ◌||◌, ℕ, ◌≤◌, ◌<◌, ltb, length, get_or}
 use Rattle.std.proofs.Math.Path.{refl}

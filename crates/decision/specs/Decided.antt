@@ -1,9 +1,9 @@
 -- The stages of a decision, and what they leave.          rules: ANSWERS (15 to 17), PLAN, HANDOVER
---     kernel_open, kernel_checks     15: every address of the kernel's extents is open
---     room_checks                   16 and 17: each module and the information block found room
+--     kernel_open, kernel_checks      15: every address of the kernel's extents is open
+--     room_checks                     16 and 17: each module and the information block found room
 --     boot_magic, plan_of, no_plan    the plan of a load, and that of a refusal
---     decided_by                    the answer of a chain of checks, with the plan where it is a load
---     placed_by, memory_decision     where the items go, and the decision on memory alone
+--     decided_by                      the answer of a chain of checks, with the plan where it is a load
+--     placed_by, memory_decision      where the items go, and the decision on memory alone
 -- Assumes nothing.
 use Rattle.std.specs.Prelude.{Bool, not, cond, List, [], ◌∷◌, ◌++◌, ℕ, ◌+◌, ◌-◌, ltb}
 use Rattle.laws.specs.Tests.{all_from}

@@ -1,6 +1,6 @@
 -- The decision on what is lent: the order of checks, and the plan.             rules: ANSWERS, PLAN
 --     lent_checks    the checks on what is lent
---     checks        all checks in their order
+--     checks         all checks in their order
 --     answer_of      the answer
 --     placed_in      where the modules and the information block go
 --     plan_in        the plan of a load

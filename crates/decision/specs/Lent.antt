@@ -1,9 +1,9 @@
 -- What is lent, and what the rules read in it.
---     Lent, lent                     submission, operator's line, map, and the window's first address and length
+--     Lent, lent                        submission, operator's line, map, and the window's first address and length
 --     layout_in, image_in, kernel_in    the submission's parts, its image, and the kernel in that
---     line_in                         the command line in force
---     board_in                        the memory map and the window
---     block_length_in                  the length of the information block
+--     line_in                           the command line in force
+--     board_in                          the memory map and the window
+--     block_length_in                   the length of the information block
 -- Assumes nothing.
 use Rattle.std.specs.Prelude.{List, ℕ}
 

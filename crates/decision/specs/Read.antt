@@ -1,8 +1,8 @@
 -- What the rules read in what is lent.
 --     layout_in, image_in, kernel_in    the submission's parts, its image, and the kernel in that
---     line_in                         the command line in force
---     board_in                        the memory map and the window
---     block_length_in                  the length of the information block
+--     line_in                           the command line in force
+--     board_in                          the memory map and the window
+--     block_length_in                   the length of the information block
 -- Assumes nothing.
 use Rattle.std.specs.Prelude.{List, ℕ, length}
 use Rattle.submission.specs.declared.Layout.{Layout}

@@ -1,6 +1,6 @@
 -- Edges of spans: where a span past an address begins or ends.
---     nearest     v where it lies past x and before e, else e
---     span_edge    the nearest edge of one span past x, else e
+--     nearest       v where it lies past x and before e, else e
+--     span_edge     the nearest edge of one span past x, else e
 --     edge_up_to    the nearest edge past x of the spans 0 to k - 1, else e
 -- Assumes nothing.
 use Rattle.std.specs.Prelude.{cond, ◌&&◌, ℕ, zero, suc, ltb}

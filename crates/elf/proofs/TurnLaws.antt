@@ -1,8 +1,8 @@
 -- A turn of the loop that gathers the segments of a table.
---     Gathered                                  the segments among the entries passed stand in their places
---     gathered_none, gathered_one, gathered_on  no entry yet; one more that is a segment; one that is not
---     bad_more                                  whether one is bad, with one more
---     gathered_all                              all entries
+--     Gathered                                    the segments among the entries passed stand in their places
+--     gathered_none, gathered_one, gathered_on    no entry yet; one more that is a segment; one that is not
+--     bad_more                                    whether one is bad, with one more
+--     gathered_all                                all entries
 -- Assumes nothing.
 use Rattle.std.proofs.Common.{◌≡◌, refl, Bool, true, false, ◌||◌, List, [], ◌∷◌, ℕ, ◌+◌, ◌<◌, arith, length, length-append, set, replicate}
 use Rattle.laws.specs.Passing.{passing}

@@ -1,7 +1,7 @@
 -- Which ELF images are refused.                                             rule: ANSWERS (18 to 20)
 --     right_kind, table_fits, well_formed    what an ELF header keeps
---     fits, bad_header, bad_no              what a loadable program header keeps
---     elf_checks                           18, 19 and 20
+--     fits, bad_header, bad_no               what a loadable program header keeps
+--     elf_checks                             18, 19 and 20
 -- Assumes nothing.
 use Rattle.std.specs.Prelude.{Bool, not, ◌&&◌, ◌||◌, List, [], ◌∷◌, ℕ, ◌+◌, ◌*◌, eqb, leb, length}
 use Rattle.laws.specs.Tests.{any}

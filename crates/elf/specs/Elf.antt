@@ -1,6 +1,6 @@
 -- An ELF image, by the standard's offsets and in its names.                                rule: ELF
---     elf_mark, is_elf                      what an ELF image begins with
---     elf_header                           the ELF header
+--     elf_mark, is_elf                        what an ELF image begins with
+--     elf_header                              the ELF header
 --     program_header_at, program_header_no    a program header, by its offset and by its index in the table
 -- All numbers are little-endian, and all addresses physical.
 -- Assumes nothing.

@@ -1,12 +1,12 @@
 -- What the checks of an ELF image say, and what its table holds.
---     few_segments                  there are no more segments than program headers
---     segment_is                    which entries of the table are segments
---     tabled                        the kernel's segments are those of the table
---     formed_is, elf_good_is        18, by the rules of an ELF image
---     headers_good_is               19, by the rules of a program header
---     segments_apart_is             20, address by address
---     entry_is                      14, by the table
---     ElfPassed, elf_passed         no check applies: each segment is good, and no two share an address
+--     few_segments              there are no more segments than program headers
+--     segment_is                which entries of the table are segments
+--     tabled                    the kernel's segments are those of the table
+--     formed_is, elf_good_is    18, by the rules of an ELF image
+--     headers_good_is           19, by the rules of a program header
+--     segments_apart_is         20, address by address
+--     entry_is                  14, by the table
+--     ElfPassed, elf_passed     no check applies: each segment is good, and no two share an address
 -- Assumes nothing.
 use Rattle.std.specs.Prelude.{◌≡◌, Bool, true, false, not, ◌&&◌, ◌||◌, List, [], ◌∷◌, ◌↔◌, ℕ, ◌+◌, ◌*◌, ◌≤◌, ◌<◌, eqb, leb, length, get_or}
 use Rattle.std.proofs.Math.Path.{refl}

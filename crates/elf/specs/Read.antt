@@ -1,7 +1,7 @@
 -- What reading an ELF image gives.
 --     Short, HeaderRead    the header of an image, and how large its numbers are
 --     Narrow               the numbers of a program header are below 2^32
---     table_checks          what is left of the checks where the header is well formed
+--     table_checks         what is left of the checks where the header is well formed
 -- Assumes nothing.
 use Rattle.std.specs.Prelude.{◌≡◌, Bool, List, [], ◌∷◌, ℕ, ◌<◌, ◌^◌, eqb}
 use Rattle.laws.specs.Checks.{Check, ◌gives◌}

@@ -1,9 +1,9 @@
 -- The segments of an ELF image.                                                            rule: ELF
---     is_loadable, is_segment        which program headers are loaded
---     segment_of                    where a segment goes
+--     is_loadable, is_segment         which program headers are loaded
+--     segment_of                      where a segment goes
 --     is_segment_no, table_segment    the same of an entry of the table
---     segments_among                the segments among the first entries of the table
---     elf_kernel                    the kernel of an ELF image
+--     segments_among                  the segments among the first entries of the table
+--     elf_kernel                      the kernel of an ELF image
 -- Assumes nothing.
 use Rattle.std.specs.Prelude.{Bool, not, ◌&&◌, List, map, ℕ, ◌+◌, eqb}
 use Rattle.laws.specs.Passing.{passing}

@@ -1,7 +1,7 @@
 -- The false headers of an image.                                                       rule: HEADER
 --     is_false_header, is_false_header_at, is_false_place    the magic with a wrong sum
---     places_passed, false_headers                  how many the search passes over, offset by offset
---     searched                                    what the search answers: the header, and that count
+--     places_passed, false_headers                           how many the search passes over, offset by offset
+--     searched                                               what the search answers: the header, and that count
 -- What a false header is in propositions stands in HeaderAt, and that so many are counted in FalseHeaderLaws.
 -- Assumes nothing.
 use Rattle.std.specs.Prelude.{ℕ, ◌+◌, ◌*◌, ◌/◌, Bool, not, ◌&&◌, List, length, ◌==◌}

@@ -1,7 +1,7 @@
 -- The Multiboot header of an image.                                                    rule: HEADER
---     header_magic, search_limit, short_header      the numbers of the rule
---     has_room                                    whether 12 bytes fit at an offset
---     words                                      the numbers that bytes make, four by four
+--     header_magic, search_limit, short_header       the numbers of the rule
+--     has_room                                       whether 12 bytes fit at an offset
+--     words                                          the numbers that bytes make, four by four
 --     sum_is_zero, is_header, header_from, header    the search, word by word from the front
 -- What a header is in propositions stands in HeaderAt, and that the search finds the lowest in HeaderLaws; how many false
 -- headers it passes over stands in FalseHeader.

@@ -1,12 +1,12 @@
 -- Which check refuses an image whose header was found, in the words of the code's tests.
 --     no_header, unknown_request_lem, undefined_bits_lem, unknown_kind_lem
 --                               checks 6, 7, 25 and 8
---     kind_judged               the checks on the kind and on the entry are left
---     found_is                  the header found, by its parts
---     by_elf, by_address        the kind is chosen by the flags
---     cut_off_lem, before_image_lem     checks 9 and 10
---     load_inside, load_left    the load begins inside the image, and the checks on it are left
---     length_fits, one_few      how long a load is at most, and that one segment is not too many
+--     kind_judged                      the checks on the kind and on the entry are left
+--     found_is                         the header found, by its parts
+--     by_elf, by_address               the kind is chosen by the flags
+--     cut_off_lem, before_image_lem    checks 9 and 10
+--     load_inside, load_left           the load begins inside the image, and the checks on it are left
+--     length_fits, one_few             how long a load is at most, and that one segment is not too many
 -- Assumes nothing.
 use mathlib.Core.Path.{◌≡◌, refl, sym, ◌∙◌}
 use mathlib.Core.Bool.{Bool, true, false, cond}

@@ -7,10 +7,10 @@
 --     header_offset, header_flags, found_header, header_fields, first_loaded, count_loaded
 --                                            what an image's header says
 --     segment_for, kernel_for, fields_kernel    the kernel of an image with address fields
---     is_addressed, kernel_of                  the kernel that an image asks for, by either kind
+--     is_addressed, kernel_of                   the kernel that an image asks for, by either kind
 --     header_checks, load_checks, field_checks, kind_checks
 --                                            the checks on the header, and on address fields or ELF
---     image_checks                            all of them, in order
+--     image_checks    all of them, in order
 -- Assumes nothing.
 use Rattle.std.specs.Prelude.{Bool, true, false, cond, not, ◌&&◌, ◌||◌, List, [], ◌∷◌, ◌++◌, ℕ, ◌+◌, ◌-◌, ◌/◌, ◌%◌, ◌^◌, eqb, ltb, length}
 use Rattle.laws.specs.Checks.{Check, only_if, ◌gives◌}

@@ -1,7 +1,7 @@
 -- The header's fields and the load calculation.                                          rule: LOAD
 --     flags_at, on_pages, fields_at, full_header    what a header says
---     load_offset, load_length                    which of the image's bytes are loaded
---     load_end, extent_end                        where the load and the kernel end
+--     load_offset, load_length                      which of the image's bytes are loaded
+--     load_end, extent_end                          where the load and the kernel end
 -- Sums are exact whole numbers. h are the address fields of a header, o is its offset, n the length of its image.
 -- Assumes nothing.
 use Rattle.std.specs.Prelude.{Bool, cond, not, List, ℕ, ◌+◌, ◌-◌, ◌%◌, max, eqb}

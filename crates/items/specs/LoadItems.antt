@@ -1,8 +1,8 @@
 -- What is placed, and beside what.                                                                   rule: PLACING
---     extents_of            the kernel's extents
---     ceiling_of            where a module ends at the latest
+--     extents_of             the kernel's extents
+--     ceiling_of             where a module ends at the latest
 --     load_item, items_of    the modules from index 0, then the information block
---     module_spans          the modules' spans among those placed, zeros past the last
+--     module_spans           the modules' spans among those placed, zeros past the last
 -- Assumes nothing.
 use Rattle.std.specs.Prelude.{Bool, false, cond, List, ℕ, ◌+◌, ◌*◌, eqb, ltb}
 use Rattle.laws.specs.Table.{table}

@@ -1,5 +1,5 @@
 -- The answer for an image, with its kernel.                                             rule: KERNEL
---     refused       a refusal comes with zeros
+--     refused        a refusal comes with zeros
 --     with_kernel    a load comes with its kernel
 --     with_entry     the same, once the entry has been checked too
 -- Assumes nothing.

@@ -1,7 +1,7 @@
 -- A kernel of segments.                                                                 rule: KERNEL
 --     max_segments, no_segment, no_kernel    the most segments, and zeros
---     kernel_with                          the kernel of these segments
---     segment_no, extent_no                 the segment of an index, and its extent
+--     kernel_with                            the kernel of these segments
+--     segment_no, extent_no                  the segment of an index, and its extent
 -- Assumes nothing.
 use Rattle.std.specs.Prelude.{false, List, ◌++◌, ℕ, ◌-◌, length, get_or, replicate}
 use Rattle.address.specs.declared.PhysAddr.{PhysAddr}

@@ -1,13 +1,13 @@
 -- Laws of tests, and of tests over a range of numbers.
---     true_or_false, or_cases, lt_or_le                          what is decided
---     or_none_left, or_none_right                                neither of two tests passes
---     and_left, and_right                                        both of two tests pass
---     eqb_is, ltb_is, not_is, false_is, or_is, and_is            what a test says
---     any_here, any_at, any_none, none_any, none_is              some number passes, or none does
---     any_more, any_none_more, any_same, any_past                one number more; tests that agree; no number passes from n on
---     all_intro, all_elim, all_not                               each number passes, or one does not
---     all_zero, all_more                                         no number, and one number more
---     run_is, run_says                                           where a run ends
+--     true_or_false, or_cases, lt_or_le                  what is decided
+--     or_none_left, or_none_right                        neither of two tests passes
+--     and_left, and_right                                both of two tests pass
+--     eqb_is, ltb_is, not_is, false_is, or_is, and_is    what a test says
+--     any_here, any_at, any_none, none_any, none_is      some number passes, or none does
+--     any_more, any_none_more, any_same, any_past        one number more; tests that agree; no number passes from n on
+--     all_intro, all_elim, all_not                       each number passes, or one does not
+--     all_zero, all_more                                 no number, and one number more
+--     run_is, run_says                                   where a run ends
 -- Assumes nothing.
 use Rattle.std.specs.Prelude.{◌≡◌, Bool, true, false, not, ◌&&◌, ◌||◌, ◌↔◌, ◌⊎◌, eqb, leb, ltb}
 use Rattle.std.proofs.Math.Path.{refl}

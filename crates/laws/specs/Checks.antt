@@ -1,8 +1,8 @@
 -- Checks in order, of which the first that applies gives the answer.
---     Check      a test, and the answer where it applies; written `test gives answer`
+--     Check       a test, and the answer where it applies; written `test gives answer`
 --     only_if     checks that are made only where a test holds
 --     first_of    the answer of the first check that applies
---     passes     no check applies
+--     passes      no check applies
 -- Assumes nothing.
 use Rattle.std.specs.Prelude.{Bool, true, cond, not, ◌&&◌, List, [], ◌∷◌}
 

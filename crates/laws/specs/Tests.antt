@@ -1,7 +1,7 @@
 -- Tests over a range of numbers.
---     any f k          f passes at some number below k
+--     any f k           f passes at some number below k
 --     all_from f a n    f passes at each of the n numbers from a on
---     run f a k        how many of the k numbers from a on pass one after the other, from the first
+--     run f a k         how many of the k numbers from a on pass one after the other, from the first
 -- Proofs go by the laws of these, so that no check walks through a range of addresses; only worked examples open them.
 -- Assumes nothing.
 use Rattle.std.specs.Prelude.{Bool, true, false, cond, ◌&&◌, ◌||◌, ℕ, zero, suc, ◌+◌}

@@ -1,8 +1,8 @@
 -- What is known of a load: where each of its spans lies.
---     Loads, loads                             no check refuses: what the stages have shown
---     span_in, count_in                          the spans of a load: the kernel's extents, the modules, and the information block
---     Inside, span_inside                      each of them lies in open memory, so inside the window and below the top
---     span_apart                               no two of them share an address
+--     Loads, loads           no check refuses: what the stages have shown
+--     span_in, count_in      the spans of a load: the kernel's extents, the modules, and the information block
+--     Inside, span_inside    each of them lies in open memory, so inside the window and below the top
+--     span_apart             no two of them share an address
 --     module_span, modules_past, block_span the plan's modules and block among them
 --     module_span_length, block_span_length    how long they are
 -- Assumes nothing.

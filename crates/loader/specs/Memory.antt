@@ -1,9 +1,9 @@
 -- The window after a load.                                                            rule: WRITING
---     segment_write, segment_writes            a segment: its load bytes, then zeros over its bss; all of them
---     module_write, module_writes              a module's data; that of all modules
+--     segment_write, segment_writes             a segment: its load bytes, then zeros over its bss; all of them
+--     module_write, module_writes               a module's data; that of all modules
 --     contents_for, contents_in, block_write    the information block
---     writes_of                               all writes of a load
---     memory_after                            the window after a load, and after a refusal
+--     writes_of                                 all writes of a load
+--     memory_after                              the window after a load, and after a refusal
 -- Assumes nothing.
 use Rattle.std.specs.Prelude.{cond, List, [], ◌∷◌, ◌++◌, ℕ, ◌-◌}
 use Rattle.laws.specs.Table.{listed}

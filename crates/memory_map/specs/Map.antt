@@ -1,9 +1,9 @@
 -- The pairs of a lent memory map as a table, and the check that it passes.     rules: MAP, ANSWERS (5)
 --     max_pairs, max_map, min_pair_size    the limits of a map
---     no_pair, pair_no                   a pair of zeros, and the pair of an index
---     pair_count                        how many pairs there are
---     pair_at, first_pairs, map_of        the pairs read
---     bad_map, map_checks                when a map is refused, as one test and as a check of the order
+--     no_pair, pair_no                     a pair of zeros, and the pair of an index
+--     pair_count                           how many pairs there are
+--     pair_at, first_pairs, map_of         the pairs read
+--     bad_map, map_checks                  when a map is refused, as one test and as a check of the order
 -- Assumes nothing.
 use Rattle.std.specs.Prelude.{Bool, ◌||◌, List, [], ◌∷◌, ℕ, ◌+◌, ltb, eqb, length, get_or}
 use Rattle.laws.specs.Tests.{any, run}

@@ -1,6 +1,6 @@
 -- The pairs of a lent memory map.                                                         rule: MAP
 --     size_bytes, base_offset, length_offset, kind_offset    where the fields of a pair stand
---     size_at, next_offset, pair_offset                     the size of a pair, and where each pair begins
+--     size_at, next_offset, pair_offset                      the size of a pair, and where each pair begins
 -- Assumes nothing.
 use Rattle.std.specs.Prelude.{List, ℕ, zero, suc, ◌+◌}
 use Rattle.number.specs.Number.{number_at}

@@ -1,7 +1,7 @@
 -- Laws of the lowest magic of an image.
 --     magic_is, no_magic, without_room    the test at an offset
 --     magic_kept                          a magic in another list
---     lowest_magic_lem                        what the search for it answers, in propositions
+--     lowest_magic_lem                    what the search for it answers, in propositions
 --     magic_found, magic_none             its answer from what is known of all places
 --     magic_part                          what stands behind the searched part has no share in the answer
 -- Assumes nothing.

@@ -2,7 +2,7 @@
 --     magic_early                       the lowest magic lies in the searched part
 --     with_header, at_magic, nowhere    the three answers
 --     after_is                          the image afterwards, by the answer
---     right_checksum_lem                    the checksum is the one with which the sum is 0
+--     right_checksum_lem                the checksum is the one with which the sum is 0
 --     mended_at                         what is promised where a checksum is mended
 -- Assumes nothing.
 use Rattle.std.specs.Prelude.{◌≡◌, ℕ, ◌+◌, ◌^◌, ◌<◌, ◌≤◌, List, [], slice_index}

@@ -1,9 +1,9 @@
 -- What mending promises holds of what is computed; and what follows for the search and for a second run.
---     mend_promised               the answer and the image afterwards are as promised
---     change_early                the header that is mended lies in the searched part
---     mended_header               the search on the mended image finds the offset mended
---     second_found, second_kept   a second run finds a header, where the first did not refuse, and changes nothing
---     mend_part, image_part_lem       the searched part alone gives the same answer and gets the same bytes
+--     mend_promised                the answer and the image afterwards are as promised
+--     change_early                 the header that is mended lies in the searched part
+--     mended_header                the search on the mended image finds the offset mended
+--     second_found, second_kept    a second run finds a header, where the first did not refuse, and changes nothing
+--     mend_part, image_part_lem    the searched part alone gives the same answer and gets the same bytes
 -- Assumes nothing.
 use Rattle.std.specs.Prelude.{◌≡◌, ℕ, ◌+◌, ◌≤◌, List, take, ◌≢◌, refl}
 use Rattle.std.proofs.Common.{sym, ap, ◌∙◌, subst, arith}

@@ -1,7 +1,7 @@
 -- A turn of the search for the lowest magic.
---     Tried                      what is known where the search has come to an offset
---     tried_start, tried_on      before the first turn, and past a place without the magic
---     tried_found, tried_all     what the search answers
+--     Tried                     what is known where the search has come to an offset
+--     tried_start, tried_on     before the first turn, and past a place without the magic
+--     tried_found, tried_all    what the search answers
 -- Assumes nothing.
 use Rattle.std.proofs.Common.{◌≡◌, ℕ, ◌+◌, ◌*◌, ◌/◌, ◌%◌, ◌<◌, ◌≤◌, min, true, false, eqb, List, length, refl, ap, ◌∙◌, ⊎_elim, arith, eqb-true}
 use Rattle.laws.proofs.TestLaws.{lt_or_le}

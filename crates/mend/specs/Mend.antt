@@ -1,8 +1,8 @@
 -- Mending the checksum of an image.                                                    rule: MENDING
 --     is_magic_at, is_magic_place, place_offset, lowest_magic    the lowest magic where a header may stand
---     right_checksum, change_at                              the checksum that makes it one, and the one that stands there
---     mending_by, mending_of, mend_number                     what is answered, and its number
---     image_with, image_after                                the image afterwards
+--     right_checksum, change_at                                  the checksum that makes it one, and the one that stands there
+--     mending_by, mending_of, mend_number                        what is answered, and its number
+--     image_with, image_after                                    the image afterwards
 -- What all this promises of the bytes stands in Promises.
 -- Assumes nothing.
 use Rattle.std.specs.Prelude.{ℕ, ◌+◌, ◌-◌, ◌*◌, ◌/◌, ◌%◌, ◌^◌, Bool, ◌&&◌, List, ◌==◌}

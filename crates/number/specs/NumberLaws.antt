@@ -1,9 +1,9 @@
 -- Laws of little-endian numbers, over the width.
---     number_bound, number_fits                                 how large a number of so many bytes is
+--     number_bound, number_fits                                    how large a number of so many bytes is
 --     length-number_bytes, length_word_bytes, word_bytes_append    the bytes of numbers and of rows of words
---     number_written                                            reading back what was written gives the number
+--     number_written                                               reading back what was written gives the number
 --     number_at_before, number_at_inside, number_at_behind         a read before, inside and behind a patched part
---     word_at                                                   reading back one of a row of words
+--     word_at                                                      reading back one of a row of words
 -- Assumes nothing.
 use Rattle.std.specs.Prelude.{◌≡◌, refl, List, [], ◌∷◌, ◌++◌, ℕ, zero, suc, ◌+◌, ◌*◌, ◌^◌, ◌-◌, ◌/◌, ◌≤◌, ◌<◌, length, take, drop, get_or}
 use Rattle.std.proofs.Common.{ap, ◌∙◌, append_assoc, le_trans, arith, length-append, length-take, length-drop, drop_of_length-le, get_or-drop, pow_pos, pow-add, pow_mono}

@@ -1,12 +1,12 @@
 -- The theorem: everything that `Outputs` states holds, for all that can be lent.
---     joined_at, joined_only                                a number in one of many rows; rows of nothing past the last
---     Low                                                   every word of a list is below 2^32
+--     joined_at, joined_only    a number in one of many rows; rows of nothing past the last
+--     Low                       every word of a list is below 2^32
 --     length_words, segment_word_lem, module_word_lem, behind_word, last_word
 --                                                           which word of a decision stands where
---     GoodPlan, good_plan                                   what is known of the plan of a load
---     words_of, low_of, lines_of_lem                            its words and its lines
---     refused, item_low                                     the words of a refusal, and how large its item is
---     outputs                                               for every submission, operator's line, memory map and window
+--     GoodPlan, good_plan               what is known of the plan of a load
+--     words_of, low_of, lines_of_lem    its words and its lines
+--     refused, item_low                 the words of a refusal, and how large its item is
+--     outputs                           for every submission, operator's line, memory map and window
 -- Assumes nothing.
 use Rattle.std.specs.Prelude.{◌≡◌, refl, true, false, List, [], ◌∷◌, ◌++◌, ℕ, zero, suc, ◌+◌, ◌-◌, ◌*◌, ◌^◌, ◌≤◌, ◌<◌, eqb, length}
 use Rattle.std.proofs.Math.Path.{sym, ap}

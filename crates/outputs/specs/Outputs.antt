@@ -1,8 +1,8 @@
 -- What a caller and a reader are given: p are the words that `viertompu::viertompu_load` writes for a decision d with the plan
 -- q, t is the text that `report::write_report` makes of them.
---     Exported                                            the words of a load are the numbers of its plan
+--     Exported                                                   the words of a load are the numbers of its plan
 --     kernel_line_of, module_line_of, block_line_of, lines_of    the lines of a load, with the same numbers
---     Outputs                                             both, and what a refusal gives
+--     Outputs                                                    both, and what a refusal gives
 -- The proof is in OutputsLaws.
 -- Assumes nothing.
 use Rattle.std.specs.Prelude.{◌≡◌, List, [], ◌∷◌, ◌++◌, ℕ, ◌+◌, ◌*◌, ◌^◌, ◌≤◌, ◌<◌, length, get_or}

@@ -1,10 +1,10 @@
 -- The report on a plan.                                                                               rule: REVIEW
 --     kernel_label, module_label, info_label, refused_label    what the lines begin with
 --     number_word, item_word, entry_word, block_words          what a plan's words say
---     line_text                                             a word, and addresses
+--     line_text                                                a word, and addresses
 --     segment_line, module_line, info_line, refusal_text       each line
---     report_of                                             the whole text
---     max_line_text, max_report                               no line and no report is longer
+--     report_of                                                the whole text
+--     max_line_text, max_report                                no line and no report is longer
 -- Assumes nothing.
 use Rattle.std.specs.Prelude.{cond, List, [], ◌∷◌, ◌++◌, ℕ, ◌+◌, ◌*◌, eqb, get_or}
 use Rattle.submission.specs.Format.{max_modules}

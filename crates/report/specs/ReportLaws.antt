@@ -1,7 +1,7 @@
 -- Laws of the report.
 --     length_line                                   a word, nine bytes for each address, and the end of the line
---     segment_none, segment_line_lem                    the line of a place without a segment, and with one
---     module_none, module_line_lem                      the same of modules
+--     segment_none, segment_line_lem                the line of a place without a segment, and with one
+--     module_none, module_line_lem                  the same of modules
 --     segment_short, module_short, refusal_short    no such line is longer than the limit
 --     report_of_load, report_of_refusal             which report is given
 --     report_short                                  no report is longer than its limit

@@ -1,5 +1,5 @@
 -- Numbers as text.                                                                                    rule: REVIEW
---     Wrote                        a text stands in a buffer from an offset on, and where it ends
+--     Wrote                          a text stands in a buffer from an offset on, and where it ends
 --     glyph_of, digits_of            the characters of a number in a base
 --     leading_zeros, decimal_text    a number in decimal digits, without zeros in front
 --     field_text, fields_text        numbers in eight hexadecimal digits each, and the end of the line

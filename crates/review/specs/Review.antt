@@ -1,10 +1,10 @@
 -- What the program prints for what it reads.                                                           rule: REVIEW
 --     pair_bytes, board_map           the board's memory map
 --     first_address, window_length    the window
---     lent_with                      what is lent with a submission
---     review_of                      the report on it
+--     lent_with                       what is lent with a submission
+--     review_of                       the report on it
 --     max_input, over_message         the longest input that is reviewed, and what is printed for a longer one
---     printed_for                    the message or the report
+--     printed_for                     the message or the report
 -- Assumes nothing.
 use Rattle.std.specs.Prelude.{cond, List, [], ◌∷◌, ◌++◌, ℕ, ltb, length}
 use Rattle.number.specs.Number.{number_bytes}

@@ -1,10 +1,10 @@
 -- The KSB format, versions 1 and 2: its fields, and where its parts lie.           rule: SUBMISSION
 --     mark, version, module_count, image_length, line_length    the prefix
---     data_length, string_length, ceiling                      the entry of a module
---     image_start, line_start, data_start, string_start          the parts, one behind the other, by exact whole numbers
---     parts_end                                               where the last part ends
+--     data_length, string_length, ceiling                       the entry of a module
+--     image_start, line_start, data_start, string_start         the parts, one behind the other, by exact whole numbers
+--     parts_end                                                 where the last part ends
 --     image_bytes, line_bytes, string_bytes                     their bytes
---     max_modules                                             the most modules
+--     max_modules                                               the most modules
 -- A field that runs past the end of the submission reads zeros there.
 -- Assumes nothing.
 use Rattle.std.specs.Prelude.{List, [], ◌∷◌, ℕ, zero, suc, ◌+◌, ◌*◌, take, drop}

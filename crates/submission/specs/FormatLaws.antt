@@ -1,10 +1,10 @@
 -- Where the parts of a submission lie, whatever its bytes are.
 --     line_behind_image, data_behind_line, string_behind_data, data_behind_string    one behind the other
---     data_order                                a later module lies further on
---     length-bytes_of, bytes_of_at                a part that lies inside is whole; its bytes
---     layout_line, layout_count, layout_end     the fields of the layout
---     length_modules, module_at, module_past    its table of modules
---     ceiling_at                                its table of ceilings
+--     data_order                                                                     a later module lies further on
+--     length-bytes_of, bytes_of_at                                                   a part that lies inside is whole; its bytes
+--     layout_line, layout_count, layout_end                                          the fields of the layout
+--     length_modules, module_at, module_past                                         its table of modules
+--     ceiling_at                                                                     its table of ceilings
 -- Assumes nothing.
 use Rattle.std.specs.Prelude.{◌≡◌, List, ℕ, zero, suc, ◌+◌, ◌≤◌, ◌<◌, length, get_or}
 use Rattle.std.proofs.Math.Path.{refl}

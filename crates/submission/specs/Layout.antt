@@ -1,7 +1,7 @@
 -- The parts of a submission by offset and length, as the code hands them on.       rule: SUBMISSION
---     table_entry                       the entry of a module in the table
+--     table_entry                         the entry of a module in the table
 --     image_part, line_part, module_of    the parts
---     layout_of                         all parts, the ceilings of the modules, and where the last part ends
+--     layout_of                           all parts, the ceilings of the modules, and where the last part ends
 --     module_no, ceiling_no, bytes_of     the module of an index, its ceiling, and the bytes of a part
 -- Assumes nothing.
 use Rattle.std.specs.Prelude.{List, ℕ, ◌+◌, get_or, take, drop}

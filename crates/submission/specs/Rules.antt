@@ -1,6 +1,6 @@
 -- Which submissions are refused.                               rules: SUBMISSION, ANSWERS (1 and 2)
 --     is_submission, rules_hold    the rules behind 1, and those behind 2
---     submission_checks           1 and 2
+--     submission_checks            1 and 2
 -- Assumes nothing.
 use Rattle.std.specs.Prelude.{Bool, not, ◌&&◌, ◌||◌, List, [], ◌∷◌, ℕ, leb, eqb, length, take}
 use Rattle.laws.specs.Tests.{all_from}

@@ -1,5 +1,5 @@
 -- The first promise: each answer exactly on its condition.
---     holds_in                   whether the condition of a refusal holds
+--     holds_in                  whether the condition of a refusal holds
 --     conditions                what these conditions say
 --     answered                  for all that is lent
 --     number_load, load_plan    the number 0 is a load, and gives its plan

@@ -1,5 +1,5 @@
 -- The command line in force and the length of the information block, by the bytes that are lent.
---     line_known      the line in force is the operator's or the submission's
+--     line_known          the line in force is the operator's or the submission's
 --     strings_size_lem    how many bytes the first strings take
 --     block_size_lem      how long the block is
 -- Assumes nothing.

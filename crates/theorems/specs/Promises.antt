@@ -1,15 +1,15 @@
 -- What is promised of every load, in propositions for all addresses. Start here.
 --     Conditions, OfHeader, OfFields, OfLoad, OfElf
 --                                     the condition of each refusal
---     Answered                        1. the first condition that holds gives the number; a refusal changes nothing
---     Counted                         how many false headers are told, in a load and in 6
---     OnMemory                        where none before 15 holds: the kernel, 15, and the places of the modules and of the information block
---     Placing                         3. each at its lowest place, and "no room" exactly where there is none
---     Planned                         the plan of a load
---     Apart                           nothing of a load shares a byte
---     Written                         2. every byte of the window after a load
---     ReadBack                        2. what the kernel finds there, and what it is handed
---     Promised                        all of it: PromisesLaws says that it holds
+--     Answered    1. the first condition that holds gives the number; a refusal changes nothing
+--     Counted     how many false headers are told, in a load and in 6
+--     OnMemory    where none before 15 holds: the kernel, 15, and the places of the modules and of the information block
+--     Placing     3. each at its lowest place, and "no room" exactly where there is none
+--     Planned     the plan of a load
+--     Apart       nothing of a load shares a byte
+--     Written     2. every byte of the window after a load
+--     ReadBack    2. what the kernel finds there, and what it is handed
+--     Promised    all of it: PromisesLaws says that it holds
 -- x is what is lent, d the decision on it and q its plan; w is the window before and v after; s is the submission.
 -- Assumes nothing.
 use Rattle.std.specs.Prelude.{◌≡◌, Bool, true, false, cond, List, [], ◌∷◌, ◌++◌, ◌↔◌, ◌⊎◌, ℕ, ◌+◌, ◌*◌, ◌-◌, ◌/◌, ◌%◌, ◌^◌, ◌≤◌, ◌<◌, min, eqb, length, get_or, take, drop}

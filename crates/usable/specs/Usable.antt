@@ -1,8 +1,8 @@
 -- Which addresses are usable.                                                    rules: MAP, USABLE
---     ram, address_space     the type of usable memory, and where usable addresses end
---     covers                the pair covers the address
+--     ram, address_space      the type of usable memory, and where usable addresses end
+--     covers                  the pair covers the address
 --     usable_by, barred_by    a pair of usable memory covers it, or one of another type
---     is_usable              the address is usable
+--     is_usable               the address is usable
 -- Assumes nothing.
 use Rattle.std.specs.Prelude.{Bool, not, ◌&&◌, ℕ, ◌+◌, ◌^◌, eqb, ltb}
 use Rattle.laws.specs.Tests.{any}

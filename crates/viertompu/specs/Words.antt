@@ -1,10 +1,10 @@
 -- The plan as words.                                                                                    rule: PLAN
 --     plan_size, first_segment, first_module     how many words there are, and where segments and modules begin
---     words_per_segment, words_per_module         how many words each of them has
---     word_of                                  an address or an offset as a word
+--     words_per_segment, words_per_module        how many words each of them has
+--     word_of                                    an address or an offset as a word
 --     head_words, segment_words, module_words    the words before the segments, of one segment, of one module
---     segments_words, modules_words             of all segments, of all modules
---     plan_words                               all words of a decision
+--     segments_words, modules_words              of all segments, of all modules
+--     plan_words                                 all words of a decision
 -- Assumes nothing.
 use Rattle.std.specs.Prelude.{List, [], ◌∷◌, ◌++◌, ℕ, ◌%◌, ◌^◌}
 use Rattle.buffer.specs.Patched.{zeros}
