@@ -41,9 +41,8 @@ pub fn decide<'a>(
     ensures { result ≡ decision_of (lent submission.now operator.now map.now first size) }
 {
     let read = submission::parse(submission);
-    let layout = read.layout;
     let parsed = memory_map::parse(map);
-    let judged = image::judge(submission::bytes_of(submission, layout.image));
+    let judged = image::judge(submission::bytes_of(submission, read.layout.image));
     let of_submission = read.answer;
     let of_operator = command_line::check_operator(operator);
     let of_window = board::window::check_window(first, size);
@@ -54,11 +53,13 @@ pub fn decide<'a>(
         return place::refuse(verdict);
     }
     let line = command_line::in_force(operator, submission);
-    let length = block::size::block_length(layout, map.len(), line.len());
-    let map = parsed.map;
+    let length = block::size::block_length(read.layout, map.len(), line.len());
     let window = board::window::window_span(first, size);
-    let kernel = judged.kernel;
-    place::decide_memory(Board { map, window }, kernel, layout, length as u64)
+    let board = Board {
+        map: parsed.map,
+        window,
+    };
+    place::decide_memory(board, judged.kernel, read.layout, length as u64)
 }
 
 // The first of the answers of the checks before 15 that refuses: on the submission, the operator's line, the window, the
