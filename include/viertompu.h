@@ -1,7 +1,7 @@
 /*
  * Viertompu: the loading of Multiboot 0.6.93 kernels, proved.
  *
- *     rt staticlib viertompu                                                    # target/staticlib/libviertompu.a
+ *     tools/staticlib                                                           # target/staticlib/libviertompu.a
  *     gcc -std=c99 -Iinclude samples/load.c target/staticlib/libviertompu.a     # x86-64, System V calls
  *
  * docs/RULES.md tells every rule; the two formats that are lent stand below.

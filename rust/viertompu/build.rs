@@ -1,4 +1,4 @@
-//! Links the proved library, which `rt staticlib viertompu` writes.
+//! Links the proved library, which `tools/staticlib` writes.
 
 use std::env;
 use std::path::Path;
@@ -9,7 +9,7 @@ fn main() {
     let library = folder.join("libviertompu.a");
     assert!(
         library.exists(),
-        "{} is missing: make it with `rt staticlib viertompu`",
+        "{} is missing: make it with `tools/staticlib`",
         library.display()
     );
     println!("cargo:rerun-if-changed={}", library.display());

@@ -6,7 +6,7 @@
 //! [`mend`] gives an image whose header has a wrong checksum the right one.
 //!
 //! A dependency `viertompu = { path = "…/rust/viertompu" }` links `target/staticlib/libviertompu.a`,
-//! which `rt staticlib viertompu` writes, for x86-64. The crate has no std, no heap and no other
+//! which `tools/staticlib` writes, for x86-64. The crate has no std, no heap and no other
 //! crates; for boot code, `include/viertompu.h` tells what the archive needs and uses.
 //!
 //! ```
