@@ -121,30 +121,30 @@ abbrev pub map_offset : ℕ → ℕ
 map_offset count = structure_size + module_entry_size * count
 
 abbrev pub name_offset : ℕ → ℕ → ℕ
-name_offset count mapLength = map_offset count + mapLength
+name_offset count map_length = map_offset count + map_length
 
 abbrev pub line_offset : ℕ → ℕ → ℕ
-line_offset count mapLength = name_offset count mapLength + length loader_name
+line_offset count map_length = name_offset count map_length + length loader_name
 
 abbrev pub strings_offset : ℕ → ℕ → ℕ → ℕ
-strings_offset count mapLength line_length = line_offset count mapLength + text_size line_length
+strings_offset count map_length line_length = line_offset count map_length + text_size line_length
 
 -- the length of a block with module strings of these lengths
 unfoldable pub block_length : List ℕ → ℕ → ℕ → ℕ
-block_length lengths mapLength line_length = strings_offset (length lengths) mapLength line_length + texts_size lengths
+block_length lengths map_length line_length = strings_offset (length lengths) map_length line_length + texts_size lengths
 
 -- the structure of a block at the address start
 unfoldable pub structure_for : ℕ → ℕ → ℕ → ℕ → ℕ → ℕ → Structure
-structure_for start lower upper count mapLength line_length = record {
+structure_for start lower upper count map_length line_length = record {
   flags = flags_of line_length;
   mem_lower = lower;
   mem_upper = upper;
-  cmdline = address_of (start + line_offset count mapLength) line_length;
+  cmdline = address_of (start + line_offset count map_length) line_length;
   mods_count = count;
   mods_addr = start + structure_size;
-  mmap_length = mapLength;
+  mmap_length = map_length;
   mmap_addr = start + map_offset count;
-  boot_loader_name = start + name_offset count mapLength;
+  boot_loader_name = start + name_offset count map_length;
 }
 
 abbrev pub structure_of : Contents → Structure

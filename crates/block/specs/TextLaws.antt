@@ -114,9 +114,9 @@ module _ (l : Layout) where
       (eq-or-lt_of_le h)
 
   -- the length of a block with the first n strings
-  pub block_length_lem : (n mapLength line_length : ℕ) → block_length (string_lengths l n) mapLength line_length ≡ strings_offset n mapLength line_length + texts_size (string_lengths l n)
+  pub block_length_lem : (n map_length line_length : ℕ) → block_length (string_lengths l n) map_length line_length ≡ strings_offset n map_length line_length + texts_size (string_lengths l n)
   unfolding block_length
-  block_length_lem n mapLength line_length = ap (λ (k : ℕ). strings_offset k mapLength line_length + texts_size (string_lengths l n)) (length-string_lengths n)
+  block_length_lem n map_length line_length = ap (λ (k : ℕ). strings_offset k map_length line_length + texts_size (string_lengths l n)) (length-string_lengths n)
 
   -- one string more than the first i has room where all have
   pub strings_room : (n i : ℕ) → i < n → texts_size (string_lengths l i) + text_size (module_no l i).string.len ≤ texts_size (string_lengths l n)

@@ -28,7 +28,7 @@ strings_of s l n = listed (λ i. bytes_of s (module_no l i).string) n
 
 -- the bytes behind the entries
 abbrev pub parts_size : ℕ → ℕ → List ℕ → ℕ
-parts_size mapLength line_length lengths = mapLength + length loader_name + text_size line_length + texts_size lengths
+parts_size map_length line_length lengths = map_length + length loader_name + text_size line_length + texts_size lengths
 
 -- the modules stand at spans below 2^32
 pub record SpansLow (l : Layout) (spans : List Span) : Type 0 where
@@ -42,12 +42,12 @@ pub record StringsIn (s : List ℕ) (l : Layout) : Type 0 where
   pub within : (i : ℕ) → i < l.count → (module_no l i).string.at + (module_no l i).string.len ≤ length s
 
 -- the block ends at 2^32 at the latest, and inside a window of so many bytes
-pub record Room (l : Layout) (mapLength line_length start at size : ℕ) : Type 0 where
-  pub low : start + block_length (string_lengths l l.count) mapLength line_length ≤ 2 ^ 32
-  pub inside : at + block_length (string_lengths l l.count) mapLength line_length ≤ size
+pub record Room (l : Layout) (map_length line_length start at size : ℕ) : Type 0 where
+  pub low : start + block_length (string_lengths l l.count) map_length line_length ≤ 2 ^ 32
+  pub inside : at + block_length (string_lengths l l.count) map_length line_length ≤ size
 
-pub record PartsStand (count mapLength line_length : ℕ) (o : Offsets) : Type 0 where
+pub record PartsStand (count map_length line_length : ℕ) (o : Offsets) : Type 0 where
   pub map : o.map ≡ map_offset count
-  pub name : o.name ≡ name_offset count mapLength
-  pub line : o.line ≡ line_offset count mapLength
-  pub strings : o.strings ≡ strings_offset count mapLength line_length
+  pub name : o.name ≡ name_offset count map_length
+  pub line : o.line ≡ line_offset count map_length
+  pub strings : o.strings ≡ strings_offset count map_length line_length

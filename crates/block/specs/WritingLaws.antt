@@ -99,15 +99,15 @@ strings_bound l k zero h = omega arith
 strings_bound l k (suc n) h =
     omega (arith, texts_size_more (string_lengths l n) (module_no l n).string.len, strings_bound l k n (λ i u. h i (omega arith)), size_high (module_no l n).string.len, h n (omega arith), suc-mul n (k + 1))
 
-pub block_bound : (l : Layout) (k mapLength line_length : ℕ) → ((i : ℕ) → i < l.count → (module_no l i).string.len ≤ k)
-    → block_length (string_lengths l l.count) mapLength line_length ≤ map_offset l.count + mapLength + length loader_name + (line_length + 1) + l.count * (k + 1)
-block_bound l k mapLength line_length h = omega (arith, block_length_lem l l.count mapLength line_length, size_high line_length, strings_bound l k l.count h)
+pub block_bound : (l : Layout) (k map_length line_length : ℕ) → ((i : ℕ) → i < l.count → (module_no l i).string.len ≤ k)
+    → block_length (string_lengths l l.count) map_length line_length ≤ map_offset l.count + map_length + length loader_name + (line_length + 1) + l.count * (k + 1)
+block_bound l k map_length line_length h = omega (arith, block_length_lem l l.count map_length line_length, size_high line_length, strings_bound l k l.count h)
 
 -- the room of a block, in the sums that its writing makes
-pub room_low : (l : Layout) (mapLength line_length start at size : ℕ) → Room l mapLength line_length start at size
-    → start + strings_offset l.count mapLength line_length + texts_size (string_lengths l l.count) ≤ 2 ^ 32
-room_low l mapLength line_length start at size r = omega (arith, r.low, block_length_lem l l.count mapLength line_length)
+pub room_low : (l : Layout) (map_length line_length start at size : ℕ) → Room l map_length line_length start at size
+    → start + strings_offset l.count map_length line_length + texts_size (string_lengths l l.count) ≤ 2 ^ 32
+room_low l map_length line_length start at size r = omega (arith, r.low, block_length_lem l l.count map_length line_length)
 
-pub room_inside : (l : Layout) (mapLength line_length start at size : ℕ) → Room l mapLength line_length start at size
-    → at + strings_offset l.count mapLength line_length + texts_size (string_lengths l l.count) ≤ size
-room_inside l mapLength line_length start at size r = omega (arith, r.inside, block_length_lem l l.count mapLength line_length)
+pub room_inside : (l : Layout) (map_length line_length start at size : ℕ) → Room l map_length line_length start at size
+    → at + strings_offset l.count map_length line_length + texts_size (string_lengths l l.count) ≤ size
+room_inside l map_length line_length start at size r = omega (arith, r.inside, block_length_lem l l.count map_length line_length)

@@ -92,7 +92,7 @@ module _ (operator s : List ℕ) where
 
   pub line_text_lem : has_zero (command_line operator s) ≡ false
   unfolding has_zero
-  line_text_lem = line_cases (λ (l : List ℕ). has_zero l ≡ false) refl (operator_text operator) (λ (a : GoodSubmission s). zero_free (line_bytes s) a.line_text_lem)
+  line_text_lem = line_cases (λ (l : List ℕ). has_zero l ≡ false) refl (operator_text operator) (λ (a : GoodSubmission s). zero_free (line_bytes s) a.line_text)
 
   pub line_zero_free : (i : ℕ) → i < length (command_line operator s) → get_or (command_line operator s) i 0 ≡ 0 → ⊥
   line_zero_free = no_zero (command_line operator s) line_text_lem

@@ -63,8 +63,8 @@ unfolding segment_write
 segment_written f image k i w v len at count bytes l b p n h = rw (← l, ← b, ← p, ← n) h
 
 -- the information block, as its parts are read
-pub block_room : (l : Layout) (mapLength start size : ℕ) (line text : List ℕ) (at place : ℕ) → line ≡ text → at ≡ place → Room l mapLength (length text) start place size → Room l mapLength (length line) start at size
-block_room l mapLength start size line text at place e f r = record { low = rw e r.low; inside = rw (e, f) r.inside }
+pub block_room : (l : Layout) (map_length start size : ℕ) (line text : List ℕ) (at place : ℕ) → line ≡ text → at ≡ place → Room l map_length (length text) start place size → Room l map_length (length line) start at size
+block_room l map_length start size line text at place e f r = record { low = rw e r.low; inside = rw (e, f) r.inside }
 
 pub block_written : (w v s operator m : List ℕ) (l : Layout) (spans : List Span) (start place : ℕ) (line : List ℕ) (p : ParsedMap) (lower upper at : ℕ)
     → line ≡ command_line operator s → p ≡ parsed_map m → lower ≡ mem_lower p.map → upper ≡ mem_upper p.map → at ≡ place

@@ -316,5 +316,5 @@ outputs x =
       load_words = load_words x;
       load_text = λ e. lines_of_lem (decision_of x).plan (module_count x.submission) (plan_words (decision_of x)) (good x e) (load_words x e);
       refusal_words = refusal_words x;
-      refusal_text_lem = refusal_text_lem x;
+      refusal_text = refusal_text_lem x;
     }

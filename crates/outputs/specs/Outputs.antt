@@ -64,4 +64,4 @@ pub record Outputs (d : Decision) (n : ℕ) (p t : List ℕ) : Type 0 where
   pub load_text : number_of d.answer ≡ 0 → t ≡ lines_of d.plan n
   -- a refusal gives its number, its item and 94 zeros, and one line with the number and the item
   pub refusal_words : (number_of d.answer ≡ 0 → ⊥) → p ≡ number_of d.answer ∷ item_of d.answer ∷ zeros 94
-  pub refusal_text_lem : (number_of d.answer ≡ 0 → ⊥) → t ≡ refusal_text (number_of d.answer) (item_of d.answer)
+  pub refusal_text : (number_of d.answer ≡ 0 → ⊥) → t ≡ refusal_text (number_of d.answer) (item_of d.answer)

@@ -24,5 +24,5 @@ pub record GoodSubmission (s : List ℕ) : Type 0 where
   pub string : (i : ℕ) → i < module_count s → string_length s i ≤ 127
   pub zeros : version s ≡ 1 → (i : ℕ) → i < module_count s → ceiling s i ≡ 0
   pub end : parts_end s ≡ length s
-  pub line_text_lem : NoZero (line_bytes s)
+  pub line_text : NoZero (line_bytes s)
   pub string_text : (i : ℕ) → i < module_count s → NoZero (string_bytes s i)

@@ -137,7 +137,7 @@ module _ (s : List ℕ) where
         string = λ i l. (entry_facts r.2 i l).1;
         zeros = λ e i l. (entry_facts r.2 i l).2 e;
         end = eqb-true _ _ r.3;
-        line_text_lem = no_zero (line_bytes s) (not-true _ r.4);
+        line_text = no_zero (line_bytes s) (not-true _ r.4);
         string_text = λ i l. no_zero (string_bytes s i) (string_facts r.5 i l);
       }
 
@@ -151,7 +151,7 @@ module _ (s : List ℕ) where
         le-leb (line_length s) max_line a.line,
         all_intro (entry_holds s) 0 (module_count s) (λ i l m. entry i (omega arith)),
         eq-eqb (parts_end s) (length s) a.end,
-        zero_free (line_bytes s) a.line_text_lem,
+        zero_free (line_bytes s) a.line_text,
         all_intro (string_holds s) 0 (module_count s) (λ i l m. text i (omega arith)),
       )
       refl
@@ -186,7 +186,7 @@ module _ (s : List ℕ) (h : GoodSubmission s) where
   data_inside i l = omega (arith, string_inside i l)
 
   pub line_no_zero : (i : ℕ) → i < line_length s → get_or s (line_start s + i) 0 ≡ 0 → ⊥
-  line_no_zero i l e = part_no_zero s (line_part s) line_inside h.line_text_lem i l e
+  line_no_zero i l e = part_no_zero s (line_part s) line_inside h.line_text i l e
 
   pub string_no_zero : (i : ℕ) → i < module_count s → (j : ℕ) → j < string_length s i → get_or s (string_start s i + j) 0 ≡ 0 → ⊥
   string_no_zero i l j k e = part_no_zero s (module_of s i).string (string_inside i l) (h.string_text i l) j k e
