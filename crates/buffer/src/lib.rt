@@ -17,6 +17,7 @@ pub fn write_bytes(dst: &mut [u8], at: usize, src: &[u8])
 }
 
 // Writes `count` zeros into dst from the offset `at` on.
+#[tactic(auto, using(crate::proofs::PartLaws::none_cleared, crate::proofs::PartLaws::part_cleared))]
 pub fn write_zeros(dst: &mut [u8], at: usize, count: usize)
     ensures { dst.new ≡ patched dst.old at (zeros count) }
 {

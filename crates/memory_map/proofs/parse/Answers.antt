@@ -23,4 +23,4 @@ pub loop-at-preserved : goal.loop-at-preserved
 loop-at-preserved c = one_more _ _ _ _ c.loop-at.invariant c.if-count-eq-MAX_PAIRS.false (sym c.broken.ensures ∙ c.if-broken.false) _ c.read_pair.ensures _ (omega arith)
 
 pub returns : goal.returns
-returns c = all_read _ _ _ _ c.loop-at.invariant c.if-m-eq0.false c.if-m-gt-MAX_MAP.false c.loop-at-test.false
+returns c = all_read _ _ _ _ c.loop-at.invariant (λ e. omega arith) c.if-m-gt-MAX_MAP.false c.loop-at-test.false
