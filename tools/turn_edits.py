@@ -9,26 +9,19 @@ An 'old:' text is found in the file again by what stays of it without spaces, pa
 import glob
 import os
 import re
-import subprocess
-import sys
 
 ROOT = os.path.dirname(os.path.dirname(os.path.realpath(__file__)))
 
 
 def plain(text):
-    """The letters that stay, and the place of each in the text."""
-    text_ = re.sub(r"getD", "get_or", text)
-    kept = [(c.lower(), i) for i, c in enumerate(text_) if c not in " ()_-«»"]
-    return text_, "".join(c for c, _ in kept), [i for _, i in kept]
-
-
-def names():
-    """The names that changed, from the ones before to the ones after, by the lines of both trees that are alike."""
-    said = subprocess.run([sys.executable, os.path.join(ROOT, "tools", "respell.py"), "--map"], capture_output=True, text=True)
-    return said.stdout
+    """The text, the letters of it that stay, and the place of each in it."""
+    text = text.replace("getD", "get_or")
+    kept = [(c.lower(), i) for i, c in enumerate(text) if c not in " ()_-«»"]
+    return text, "".join(c for c, _ in kept), [i for _, i in kept]
 
 
 def spelled(text):
+    """The text in today's spelling."""
     text = re.sub(r" \.(?=[\w«])", ".", text)
     text = re.sub(r"\.«(\w+)»", r".\1", text)
     text = text.replace("getD", "get_or")
