@@ -2,13 +2,14 @@
 #![tactic(auto)]
 
 ghost use Rattle.std.specs.Prelude.{◌≡◌};
-ghost use Rattle.answer.specs.Answer.{number_of, item_of, is_load, or_else};
+ghost use Rattle.answer.specs.Answer.{refusal_number, refusal_item, number_of, item_of};
+
+// What a check or a load answers: a value, or the first refusal that applies.
+pub type Answer<T> = Result<T, Refusal>;
 
 // The refusals in the order of checks.
-#[derive(Clone, Copy)]
-pub enum Answer {
-    // 0: no check applies: a load
-    Load,
+#[derive(Clone, Copy, PartialEq, Eq)]
+pub enum Refusal {
     // 1: the submission is under 12 bytes, or its mark or version is wrong
     NotASubmission,
     // 2: the submission breaks another rule of its format
@@ -52,60 +53,64 @@ pub enum Answer {
     NoRoomForBlock,
 }
 
-// The number of an answer.
-pub fn number(a: Answer) -> u32
-    ensures { result ≡ number_of a }
-{
-    match a {
-        Answer::Load => 0,
-        Answer::NotASubmission => 1,
-        Answer::BadSubmission => 2,
-        Answer::BadOperatorLine => 3,
-        Answer::WindowPastTop => 4,
-        Answer::BadMemoryMap => 5,
-        Answer::NoHeader(_) => 6,
-        Answer::UnknownRequest => 7,
-        Answer::UndefinedBits => 25,
-        Answer::NoAddressFields => 8,
-        Answer::HeaderCutOff => 9,
-        Answer::LoadBeforeImage => 10,
-        Answer::LoadPastImage => 12,
-        Answer::BssBelowLoadEnd => 13,
-        Answer::BadElf => 18,
-        Answer::BadProgramHeader => 19,
-        Answer::SegmentsOverlap => 20,
-        Answer::EntryOutsideLoad => 14,
-        Answer::KernelNotOpen => 15,
-        Answer::NoRoomForModule(_) => 16,
-        Answer::NoRoomForBlock => 17,
+impl Refusal {
+    // The number of a refusal.
+    pub fn number(self) -> u32
+        ensures { result ≡ refusal_number self }
+    {
+        match self {
+            Refusal::NotASubmission => 1,
+            Refusal::BadSubmission => 2,
+            Refusal::BadOperatorLine => 3,
+            Refusal::WindowPastTop => 4,
+            Refusal::BadMemoryMap => 5,
+            Refusal::NoHeader(_) => 6,
+            Refusal::UnknownRequest => 7,
+            Refusal::UndefinedBits => 25,
+            Refusal::NoAddressFields => 8,
+            Refusal::HeaderCutOff => 9,
+            Refusal::LoadBeforeImage => 10,
+            Refusal::LoadPastImage => 12,
+            Refusal::BssBelowLoadEnd => 13,
+            Refusal::BadElf => 18,
+            Refusal::BadProgramHeader => 19,
+            Refusal::SegmentsOverlap => 20,
+            Refusal::EntryOutsideLoad => 14,
+            Refusal::KernelNotOpen => 15,
+            Refusal::NoRoomForModule(_) => 16,
+            Refusal::NoRoomForBlock => 17,
+        }
+    }
+
+    // The item of a refusal: how many false headers there are where there is no header, the module's index where one has no
+    // room, else 0.
+    pub fn item(self) -> u32
+        ensures { result ≡ refusal_item self }
+    {
+        match self {
+            Refusal::NoHeader(n) => n,
+            Refusal::NoRoomForModule(i) => i,
+            _ => 0,
+        }
     }
 }
 
-// The item of an answer: how many false headers there are where there is no header, the module's index where one has no
-// room, else 0.
-pub fn item(a: Answer) -> u32
-    ensures { result ≡ item_of a }
+// The number of an answer: 0, or that of the refusal.
+pub fn number<T>(answer: &Answer<T>) -> u32
+    ensures { result ≡ number_of answer.now }
 {
-    match a {
-        Answer::NoHeader(n) => n,
-        Answer::NoRoomForModule(i) => i,
-        _ => 0,
+    match answer {
+        Ok(_) => 0,
+        Err(refusal) => refusal.number(),
     }
 }
 
-// Whether no check refuses.
-pub fn is_load(a: Answer) -> bool
-    ensures { result ≡ is_load a }
+// The item of an answer: 0, or that of the refusal.
+pub fn item<T>(answer: &Answer<T>) -> u32
+    ensures { result ≡ item_of answer.now }
 {
-    number(a) == 0
-}
-
-// The first of two answers that refuses.
-pub fn or_else(a: Answer, b: Answer) -> Answer
-    ensures { result ≡ or_else a b }
-{
-    if is_load(a) {
-        return b;
+    match answer {
+        Ok(_) => 0,
+        Err(refusal) => refusal.item(),
     }
-    a
 }

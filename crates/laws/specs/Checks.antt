@@ -1,30 +1,30 @@
--- Checks in order, of which the first that applies gives the answer.
---     Check       a test, and the answer where it applies; written `test gives answer`
+-- Checks in order, of which the first that applies refuses.
+--     Check       a test, and the refusal where it applies; written `test gives refusal`
 --     only_if     checks that are made only where a test holds
---     first_of    the answer of the first check that applies
+--     first_of    the refusal of the first check that applies, or a value where none does
 --     passes      no check applies
 -- Assumes nothing.
-use Rattle.std.specs.Prelude.{Bool, true, cond, not, ◌&&◌, List, [], ◌∷◌}
+use Rattle.std.specs.Prelude.{Bool, true, cond, not, ◌&&◌, List, [], ◌∷◌, Result, Ok, Err}
 
-pub record Check (A : Type 0) : Type 0 where
+pub record Check (E : Type 0) : Type 0 where
   pub applies : Bool
-  pub answer : A
+  pub refusal : E
 
 infix 70 ◌gives◌
-abbrev pub ◌gives◌ : {A : Type 0} → Bool → A → Check A
-◌gives◌ t a = record { applies = t; answer = a }
+abbrev pub ◌gives◌ : {E : Type 0} → Bool → E → Check E
+◌gives◌ t e = record { applies = t; refusal = e }
 
 -- checks that apply only where t holds
-unfoldable pub only_if : {A : Type 0} → Bool → List (Check A) → List (Check A)
+unfoldable pub only_if : {E : Type 0} → Bool → List (Check E) → List (Check E)
 only_if t [] = []
-only_if t (k ∷ ks) = (t && k.applies) gives k.answer ∷ only_if t ks
+only_if t (k ∷ ks) = (t && k.applies) gives k.refusal ∷ only_if t ks
 
--- the answer of the first check that applies, or `last` where none does
-unfoldable pub first_of : {A : Type 0} → List (Check A) → A → A
-first_of [] last = last
-first_of (k ∷ ks) last = let r = first_of ks last in cond k.applies k.answer r
+-- the refusal of the first check that applies, or the value where none does
+unfoldable pub first_of : {E A : Type 0} → List (Check E) → A → Result A E
+first_of [] value = Ok value
+first_of (k ∷ ks) value = let r = first_of ks value in cond k.applies (Err k.refusal) r
 
 -- whether no check applies
-unfoldable pub passes : {A : Type 0} → List (Check A) → Bool
+unfoldable pub passes : {E : Type 0} → List (Check E) → Bool
 passes [] = true
 passes (k ∷ ks) = not k.applies && passes ks
