@@ -7,7 +7,7 @@ use Rattle.std.proofs.Common.{ltb-false, le-ltb}
 use Rattle.laws.specs.Checks.{first_of}
 use Rattle.address.specs.Address.{top}
 use Rattle.answer.specs.ChainLaws.{refuses, check_passed}
-use Rattle.answer.specs.declared.Answer.TheVariants.{Load, WindowPastTop}
+use Rattle.answer.specs.declared.Refusal.TheVariants.{WindowPastTop}
 use Rattle.board.specs.Window.{window_checks}
 
 pub window_refuses : (first n : ℕ) → refuses (window_checks first n) ≡ true

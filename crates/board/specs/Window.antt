@@ -6,10 +6,10 @@ use Rattle.std.specs.Prelude.{List, [], ◌∷◌, ℕ, ◌+◌, ltb}
 use Rattle.laws.specs.Checks.{Check, ◌gives◌}
 use Rattle.address.specs.declared.Span.{Span}
 use Rattle.address.specs.Address.{top}
-use Rattle.answer.specs.declared.Answer.{Answer}
-use Rattle.answer.specs.declared.Answer.TheVariants.{WindowPastTop}
+use Rattle.answer.specs.declared.Refusal.{Refusal}
+use Rattle.answer.specs.declared.Refusal.TheVariants.{WindowPastTop}
 
-unfoldable pub window_checks : ℕ → ℕ → List (Check Answer)
+unfoldable pub window_checks : ℕ → ℕ → List (Check Refusal)
 window_checks first n = (ltb top (first + n) gives WindowPastTop) ∷ []
 
 abbrev pub window_span : ℕ → ℕ → Span

@@ -10,8 +10,8 @@ use Rattle.laws.specs.Tests.{all_from}
 use Rattle.laws.specs.Checks.{Check, first_of, ◌gives◌}
 use Rattle.address.specs.Span.{span_no}
 use Rattle.answer.specs.Answer.{is_load}
-use Rattle.answer.specs.declared.Answer.{Answer}
-use Rattle.answer.specs.declared.Answer.TheVariants.{Load, KernelNotOpen, NoRoomForModule, NoRoomForBlock}
+use Rattle.answer.specs.declared.Refusal.{Refusal}
+use Rattle.answer.specs.declared.Refusal.TheVariants.{KernelNotOpen, NoRoomForModule, NoRoomForBlock}
 use Rattle.submission.specs.declared.Layout.{Layout}
 use Rattle.kernel.specs.declared.Kernel.{Kernel}
 use Rattle.kernel.specs.Kernel.{extent_no}
@@ -33,11 +33,11 @@ unfoldable pub kernel_open : Board → Kernel → Bool
 kernel_open b k = all_from (extent_open b k) 0 k.count
 
 -- 15: an address of the kernel's extents not open
-unfoldable pub kernel_checks : Board → Kernel → List (Check Answer)
+unfoldable pub kernel_checks : Board → Kernel → List (Check Refusal)
 kernel_checks b k = (not (kernel_open b k) gives KernelNotOpen) ∷ []
 
 -- 16 and 17: `done` items found room, of n modules and the information block
-unfoldable pub room_checks : ℕ → ℕ → List (Check Answer)
+unfoldable pub room_checks : ℕ → ℕ → List (Check Refusal)
 room_checks done n = (ltb done n gives NoRoomForModule done) ∷ (ltb done (n + 1) gives NoRoomForBlock) ∷ []
 
 -- the number handed over in EAX
@@ -56,7 +56,7 @@ plan_of k t n =
     }
 
 -- a refusal comes with zeros
-unfoldable pub decided_by : List (Check Answer) → Plan → Decision
+unfoldable pub decided_by : List (Check Refusal) → Plan → Decision
 decided_by ks p = record { answer = first_of ks Load; plan = cond (is_load (first_of ks Load)) p no_plan }
 
 -- each module in list order, then the information block of so many bytes, beside the kernel's extents
@@ -64,7 +64,7 @@ unfoldable pub placed_by : Board → Kernel → Layout → ℕ → Placed
 placed_by b k l size = place_items (is_open b) (extents_of k) (items_of l k.pages size)
 
 -- 15 to 17, and the plan
-abbrev pub memory_checks : Board → Kernel → Layout → ℕ → List (Check Answer)
+abbrev pub memory_checks : Board → Kernel → Layout → ℕ → List (Check Refusal)
 memory_checks b k l size = kernel_checks b k ++ room_checks (placed_by b k l size).done l.count
 
 abbrev pub memory_plan : Board → Kernel → Layout → ℕ → Plan

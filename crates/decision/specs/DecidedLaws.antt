@@ -6,13 +6,12 @@ use Rattle.std.specs.Prelude.{◌≡◌, true, false, List, ◌++◌}
 use Rattle.laws.specs.Checks.{Check, first_of}
 use Rattle.answer.specs.Answer.{is_load}
 use Rattle.answer.specs.ChainLaws.{refuses, chain_append, or_else_first, or_else_second}
-use Rattle.answer.specs.declared.Answer.{Answer}
-use Rattle.answer.specs.declared.Answer.TheVariants.{Load}
+use Rattle.answer.specs.declared.Refusal.{Refusal}
 use Rattle.decision.specs.declared.Plan.{Plan}
 use Rattle.decision.specs.Decided.{decided_by}
 use Rattle.decision.specs.Plan.{no_plan}
 
-module _ (ks ls : List (Check Answer)) (p : Plan) (r : refuses ks ≡ true) where
+module _ (ks ls : List (Check Refusal)) (p : Plan) (r : refuses ks ≡ true) where
   -- where a stage refuses, its answer is the decision's, and the plan is zeros
   pub stage_refuses : is_load (first_of ks Load) ≡ false → record { answer = first_of ks Load; plan = no_plan } ≡ decided_by (ks ++ ls) p
   unfolding decided_by

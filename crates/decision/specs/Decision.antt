@@ -8,8 +8,7 @@
 -- Assumes nothing.
 use Rattle.std.specs.Prelude.{List, ◌++◌}
 use Rattle.laws.specs.Checks.{Check, first_of}
-use Rattle.answer.specs.declared.Answer.{Answer}
-use Rattle.answer.specs.declared.Answer.TheVariants.{Load}
+use Rattle.answer.specs.declared.Refusal.{Refusal}
 use Rattle.submission.specs.Rules.{submission_checks}
 use Rattle.command_line.specs.CommandLine.{operator_checks}
 use Rattle.image.specs.Judged.{image_checks}
@@ -26,7 +25,7 @@ abbrev pub placed_in : Lent → Placed
 placed_in x = placed_by (board_in x) (kernel_in x) (layout_in x) (block_length_in x)
 
 -- 1 and 2, 3, 4, 5, then those on the image: 6, 7, 25 and 8, 9 to 13 or 18 to 20, and 14
-unfoldable pub lent_checks : Lent → List (Check Answer)
+unfoldable pub lent_checks : Lent → List (Check Refusal)
 lent_checks x =
     submission_checks x.submission
     ++ operator_checks x.operator
@@ -35,7 +34,7 @@ lent_checks x =
     ++ image_checks (image_in x)
 
 -- then 15, 16 and 17
-unfoldable pub checks : Lent → List (Check Answer)
+unfoldable pub checks : Lent → List (Check Refusal)
 checks x = lent_checks x ++ memory_checks (board_in x) (kernel_in x) (layout_in x) (block_length_in x)
 
 abbrev pub answer_of : Lent → Answer

@@ -17,8 +17,7 @@ use Rattle.address.specs.Address.{top}
 use Rattle.address.specs.declared.Span.{Span}
 use Rattle.answer.specs.Answer.{is_load, or_else}
 use Rattle.answer.specs.ChainLaws.{refuses, refuses_append, chain_append, or_else_same, or_else_load, passes_is, load_is}
-use Rattle.answer.specs.declared.Answer.{Answer}
-use Rattle.answer.specs.declared.Answer.TheVariants.{Load}
+use Rattle.answer.specs.declared.Refusal.{Refusal}
 use Rattle.submission.specs.declared.Layout.{Layout}
 use Rattle.submission.specs.declared.Module.{Module}
 use Rattle.submission.specs.declared.ParsedSubmission.{ParsedSubmission}

@@ -10,8 +10,8 @@ use borrow.Author.Tests.{ltb-false, not-false}
 use Rattle.laws.specs.Checks.{first_of}
 use Rattle.answer.specs.Answer.{is_load}
 use Rattle.answer.specs.ChainLaws.{refuses, check_passed, load_is}
-use Rattle.answer.specs.declared.Answer.{Answer}
-use Rattle.answer.specs.declared.Answer.TheVariants.{Load, KernelNotOpen, NoRoomForModule, NoRoomForBlock}
+use Rattle.answer.specs.declared.Refusal.{Refusal}
+use Rattle.answer.specs.declared.Refusal.TheVariants.{KernelNotOpen, NoRoomForModule, NoRoomForBlock}
 use Rattle.submission.specs.declared.Layout.{Layout}
 use Rattle.kernel.specs.declared.Kernel.{Kernel}
 use Rattle.board.specs.declared.Board.{Board}

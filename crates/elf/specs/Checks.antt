@@ -6,8 +6,8 @@
 use Rattle.std.specs.Prelude.{Bool, not, ◌&&◌, ◌||◌, List, [], ◌∷◌, ℕ, ◌+◌, ◌*◌, eqb, leb, length}
 use Rattle.laws.specs.Tests.{any}
 use Rattle.laws.specs.Checks.{Check, ◌gives◌}
-use Rattle.answer.specs.declared.Answer.{Answer}
-use Rattle.answer.specs.declared.Answer.TheVariants.{BadElf, BadProgramHeader, SegmentsOverlap}
+use Rattle.answer.specs.declared.Refusal.{Refusal}
+use Rattle.answer.specs.declared.Refusal.TheVariants.{BadElf, BadProgramHeader, SegmentsOverlap}
 use Rattle.kernel.specs.declared.Kernel.{Kernel}
 use Rattle.kernel.specs.Kernel.{max_segments}
 use Rattle.kernel.specs.Checks.{extents_overlap}
@@ -44,7 +44,7 @@ unfoldable pub bad_no : List ℕ → ℕ → Bool
 bad_no image i = bad_header (program_header_no image i) (length image)
 
 -- 18, then 19, then 20: the checks on an ELF image with the kernel k
-unfoldable pub elf_checks : List ℕ → Kernel → List (Check Answer)
+unfoldable pub elf_checks : List ℕ → Kernel → List (Check Refusal)
 elf_checks image k =
     (not (well_formed (elf_header image) (length image)) || eqb k.count 0) gives BadElf
     ∷ any (bad_no image) (elf_header image).e_phnum gives BadProgramHeader

@@ -18,7 +18,7 @@ use Rattle.laws.specs.Tests.{any}
 use Rattle.laws.specs.Checks.{first_of, ◌gives◌}
 use Rattle.laws.proofs.TestLaws.{true_or_false, lt_or_le, and_left, and_right, and_is, not_is, eqb_is, or_none_left, or_none_right, none_is}
 use Rattle.address.specs.Span.{Holds}
-use Rattle.answer.specs.declared.Answer.TheVariants.{Load, BadElf, BadProgramHeader, SegmentsOverlap}
+use Rattle.answer.specs.declared.Refusal.TheVariants.{BadElf, BadProgramHeader, SegmentsOverlap}
 use Rattle.answer.specs.ChainLaws.{check_passed}
 use Rattle.kernel.specs.declared.Segment.{Segment}
 use Rattle.kernel.specs.declared.FoundHeader.{FoundHeader}

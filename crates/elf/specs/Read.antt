@@ -5,8 +5,8 @@
 -- Assumes nothing.
 use Rattle.std.specs.Prelude.{◌≡◌, Bool, List, [], ◌∷◌, ℕ, ◌<◌, ◌^◌, eqb}
 use Rattle.laws.specs.Checks.{Check, ◌gives◌}
-use Rattle.answer.specs.declared.Answer.{Answer}
-use Rattle.answer.specs.declared.Answer.TheVariants.{BadElf, BadProgramHeader, SegmentsOverlap}
+use Rattle.answer.specs.declared.Refusal.{Refusal}
+use Rattle.answer.specs.declared.Refusal.TheVariants.{BadElf, BadProgramHeader, SegmentsOverlap}
 use Rattle.kernel.specs.declared.Kernel.{Kernel}
 use Rattle.kernel.specs.Checks.{extents_overlap}
 use Rattle.elf.specs.declared.read.ElfHeader.{ElfHeader}
@@ -28,5 +28,5 @@ pub record Narrow (p : ProgramHeader) : Type 0 where
   pub taken : p.p_memsz < 2 ^ 32
 
 -- k is the kernel of the table; bad is whether a loadable program header does not fit
-unfoldable pub table_checks : Kernel → Bool → List (Check Answer)
+unfoldable pub table_checks : Kernel → Bool → List (Check Refusal)
 table_checks k bad = eqb k.count 0 gives BadElf ∷ bad gives BadProgramHeader ∷ extents_overlap k gives SegmentsOverlap ∷ []

@@ -20,8 +20,8 @@ use Rattle.laws.proofs.CheckLaws.{chain, not_to_true, not_to_false}
 use Rattle.address.specs.declared.ImageOffset.{ImageOffset}
 use Rattle.answer.specs.Answer.{is_load, or_else}
 use Rattle.answer.specs.ChainLaws.{chain_append, or_else_first, or_else_second}
-use Rattle.answer.specs.declared.Answer.{Answer}
-use Rattle.answer.specs.declared.Answer.TheVariants.{Load, NoHeader, UnknownRequest, UndefinedBits, NoAddressFields, HeaderCutOff, LoadBeforeImage}
+use Rattle.answer.specs.declared.Refusal.{Refusal}
+use Rattle.answer.specs.declared.Refusal.TheVariants.{NoHeader, UnknownRequest, UndefinedBits, NoAddressFields, HeaderCutOff, LoadBeforeImage}
 use Rattle.header.specs.declared.Search.{Search}
 use Rattle.header.specs.declared.Search.TheVariants.{At, Nothing}
 use Rattle.header.specs.Header.{header}

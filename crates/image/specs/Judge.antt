@@ -3,7 +3,6 @@
 -- Assumes nothing.
 use Rattle.std.specs.Prelude.{List, ℕ}
 use Rattle.laws.specs.Checks.{first_of}
-use Rattle.answer.specs.declared.Answer.TheVariants.{Load}
 use Rattle.kernel.specs.declared.Judged.{Judged}
 use Rattle.kernel.specs.Judge.{with_kernel}
 use Rattle.image.specs.Judged.{image_checks, kernel_of}

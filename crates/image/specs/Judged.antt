@@ -14,8 +14,8 @@
 -- Assumes nothing.
 use Rattle.std.specs.Prelude.{Bool, true, false, cond, not, ◌&&◌, ◌||◌, List, [], ◌∷◌, ◌++◌, ℕ, ◌+◌, ◌-◌, ◌/◌, ◌%◌, ◌^◌, eqb, ltb, length}
 use Rattle.laws.specs.Checks.{Check, only_if, ◌gives◌}
-use Rattle.answer.specs.declared.Answer.{Answer}
-use Rattle.answer.specs.declared.Answer.TheVariants.{NoHeader, UnknownRequest, UndefinedBits, NoAddressFields, HeaderCutOff, LoadBeforeImage, LoadPastImage, BssBelowLoadEnd}
+use Rattle.answer.specs.declared.Refusal.{Refusal}
+use Rattle.answer.specs.declared.Refusal.TheVariants.{NoHeader, UnknownRequest, UndefinedBits, NoAddressFields, HeaderCutOff, LoadBeforeImage, LoadPastImage, BssBelowLoadEnd}
 use Rattle.header.specs.declared.Search.{Search}
 use Rattle.header.specs.declared.Search.TheVariants.{At, Nothing}
 use Rattle.header.specs.Header.{search_limit, header}
@@ -113,7 +113,7 @@ unfoldable pub kernel_of : List ℕ → Kernel
 kernel_of image = cond (is_addressed image) (fields_kernel image) (elf_kernel image (found_header image))
 
 -- the checks on the header: 6, 7, 25 and 8
-unfoldable pub header_checks : List ℕ → List (Check Answer)
+unfoldable pub header_checks : List ℕ → List (Check Refusal)
 header_checks image =
     no_header (header image) gives NoHeader (false_headers image)
     ∷ unknown_request (header_flags image) gives UnknownRequest
@@ -122,25 +122,25 @@ header_checks image =
     ∷ []
 
 -- the checks on the load of `len` bytes from `offset` on, of an image of n bytes: 12 and 13
-unfoldable pub load_checks : AddressFields → ℕ → ℕ → ℕ → List (Check Answer)
+unfoldable pub load_checks : AddressFields → ℕ → ℕ → ℕ → List (Check Refusal)
 load_checks h offset len n =
     past_image h offset len n gives LoadPastImage
     ∷ bss_below h (load_end h len) gives BssBelowLoadEnd
     ∷ []
 
 -- the checks on address fields: 9 to 13
-unfoldable pub field_checks : List ℕ → List (Check Answer)
+unfoldable pub field_checks : List ℕ → List (Check Refusal)
 field_checks image =
     cut_off (header_offset image) (length image) gives HeaderCutOff
     ∷ before_image (header_fields image) (header_offset image) gives LoadBeforeImage
     ∷ load_checks (header_fields image) (first_loaded image) (count_loaded image) (length image)
 
 -- 9 to 13 for address fields, 18 to 20 for ELF
-unfoldable pub kind_checks : List ℕ → List (Check Answer)
+unfoldable pub kind_checks : List ℕ → List (Check Refusal)
 kind_checks image =
     only_if (is_addressed image) (field_checks image)
     ++ only_if (not (is_addressed image)) (elf_checks image (elf_kernel image (found_header image)))
 
 -- all of them, in order
-unfoldable pub image_checks : List ℕ → List (Check Answer)
+unfoldable pub image_checks : List ℕ → List (Check Refusal)
 image_checks image = header_checks image ++ kind_checks image ++ entry_checks (kernel_of image)

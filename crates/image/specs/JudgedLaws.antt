@@ -22,7 +22,7 @@ use Rattle.number.specs.Number.{number_at}
 use Rattle.address.specs.Span.{Holds}
 use Rattle.answer.specs.Answer.{is_load}
 use Rattle.answer.specs.ChainLaws.{refuses, refuses_append, chain_append, check_passed, or_else_load, load_is}
-use Rattle.answer.specs.declared.Answer.TheVariants.{Load, NoHeader, HeaderCutOff, LoadBeforeImage, LoadPastImage, EntryOutsideLoad}
+use Rattle.answer.specs.declared.Refusal.TheVariants.{NoHeader, HeaderCutOff, LoadBeforeImage, LoadPastImage, EntryOutsideLoad}
 use Rattle.header.specs.declared.Search.{Search}
 use Rattle.header.specs.declared.Search.TheVariants.{At, Nothing}
 use Rattle.header.specs.Header.{header_magic, search_limit, short_header, header}

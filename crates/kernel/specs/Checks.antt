@@ -7,8 +7,8 @@ use Rattle.laws.specs.Tests.{any}
 use Rattle.laws.specs.Checks.{Check, ◌gives◌}
 use Rattle.address.specs.Address.{inside}
 use Rattle.address.specs.Span.{overlap}
-use Rattle.answer.specs.declared.Answer.{Answer}
-use Rattle.answer.specs.declared.Answer.TheVariants.{EntryOutsideLoad}
+use Rattle.answer.specs.declared.Refusal.{Refusal}
+use Rattle.answer.specs.declared.Refusal.TheVariants.{EntryOutsideLoad}
 use Rattle.kernel.specs.declared.Kernel.{Kernel}
 use Rattle.kernel.specs.Kernel.{segment_no, extent_no}
 
@@ -20,7 +20,7 @@ entry_in k i = inside (segment_no k i).start.0 (segment_no k i).load_end.0 k.ent
 unfoldable pub entry_outside : Kernel → Bool
 entry_outside k = not (any (entry_in k) k.count)
 
-unfoldable pub entry_checks : Kernel → List (Check Answer)
+unfoldable pub entry_checks : Kernel → List (Check Refusal)
 entry_checks k = entry_outside k gives EntryOutsideLoad ∷ []
 
 -- the extents j and i share an address

@@ -6,8 +6,7 @@
 use Rattle.std.specs.Prelude.{cond}
 use Rattle.laws.specs.Checks.{first_of}
 use Rattle.answer.specs.Answer.{is_load, or_else}
-use Rattle.answer.specs.declared.Answer.{Answer}
-use Rattle.answer.specs.declared.Answer.TheVariants.{Load}
+use Rattle.answer.specs.declared.Refusal.{Refusal}
 use Rattle.kernel.specs.declared.Kernel.{Kernel}
 use Rattle.kernel.specs.declared.Judged.{Judged}
 use Rattle.kernel.specs.Kernel.{no_kernel}

@@ -12,7 +12,6 @@ use native.Mathlib.Omega.{arith}
 use Rattle.std.proofs.Math.ListN.{length, set}
 use Rattle.laws.specs.Table.{listed, table}
 use Rattle.laws.proofs.TableLaws.{table_more}
-use Rattle.answer.specs.declared.Answer.TheVariants.{Load}
 use Rattle.memory_map.specs.declared.Pair.{Pair}
 use Rattle.memory_map.specs.declared.MemoryMap.{MemoryMap}
 use Rattle.memory_map.specs.Map.{max_pairs, no_pair, max_map, pair_count, pair_at, too_small, past_end, bad_map, first_pairs}

@@ -10,8 +10,8 @@ use Rattle.laws.specs.Tests.{any, run}
 use Rattle.laws.specs.Table.{table}
 use Rattle.laws.specs.Checks.{Check, ◌gives◌}
 use Rattle.number.specs.Number.{number_at}
-use Rattle.answer.specs.declared.Answer.{Answer}
-use Rattle.answer.specs.declared.Answer.TheVariants.{BadMemoryMap}
+use Rattle.answer.specs.declared.Refusal.{Refusal}
+use Rattle.answer.specs.declared.Refusal.TheVariants.{BadMemoryMap}
 use Rattle.memory_map.specs.declared.Pair.{Pair}
 use Rattle.memory_map.specs.declared.MemoryMap.{MemoryMap}
 use Rattle.memory_map.specs.Pairs.{pair_offset, size_at, next_offset, base_offset, length_offset, kind_offset}
@@ -56,7 +56,7 @@ bad_map m =
     || any (λ i. too_small m (pair_offset m i)) (pair_count m)
     || any (λ i. past_end m (pair_offset m i)) (pair_count m)
 
-unfoldable pub map_checks : List ℕ → List (Check Answer)
+unfoldable pub map_checks : List ℕ → List (Check Refusal)
 map_checks m = (bad_map m gives BadMemoryMap) ∷ []
 
 -- the pair at an offset

@@ -29,7 +29,7 @@ use Rattle.laws.proofs.TableLaws.{length_table, table_at, table_past, replicate_
 use Rattle.laws.specs.Checks.{first_of}
 use Rattle.laws.proofs.CheckLaws.{chain}
 use Rattle.number.specs.NumberLaws.{Bytes, bytes_drop, number_bound}
-use Rattle.answer.specs.declared.Answer.TheVariants.{Load, BadMemoryMap}
+use Rattle.answer.specs.declared.Refusal.TheVariants.{BadMemoryMap}
 use Rattle.answer.specs.ChainLaws.{refuses, check_passed}
 use Rattle.memory_map.specs.declared.Pair.{Pair}
 use Rattle.memory_map.specs.Pairs.{base_offset, length_offset, kind_offset, size_at, next_offset, pair_offset}

@@ -3,7 +3,6 @@
 -- Assumes nothing.
 use Rattle.std.specs.Prelude.{cond, List, ℕ, replicate}
 use Rattle.laws.specs.Checks.{first_of}
-use Rattle.answer.specs.declared.Answer.TheVariants.{Load}
 use Rattle.memory_map.specs.declared.MemoryMap.{MemoryMap}
 use Rattle.memory_map.specs.declared.ParsedMap.{ParsedMap}
 use Rattle.memory_map.specs.Map.{max_pairs, map_checks, no_pair, bad_map, map_of}

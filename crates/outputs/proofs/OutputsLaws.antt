@@ -21,7 +21,7 @@ use Rattle.laws.proofs.TableLaws.{replicate_at}
 use Rattle.buffer.specs.Patched.{zeros}
 use Rattle.address.specs.declared.Span.{Span}
 use Rattle.address.specs.Span.{span_no}
-use Rattle.answer.specs.declared.Answer.{Answer}
+use Rattle.answer.specs.declared.Refusal.{Refusal}
 use Rattle.answer.specs.Answer.{number_of, item_of}
 use Rattle.answer.specs.AnswerLaws.{item_none, number_most}
 use Rattle.submission.specs.Layout.{layout_of}

@@ -3,6 +3,7 @@
 --     too_many, .. zero_in_line, else_strings    whether the rules hold
 --     not_parsed, bad_parsed, good_parsed        what the parse gives
 -- Assumes nothing.
+use Rattle.std.specs.Prelude.{Ok, Err}
 use mathlib.Core.Path.{◌≡◌, refl, ap, ◌∙◌}
 use mathlib.Core.Bool.{true, false}
 use mathlib.Core.List.{List}
@@ -12,11 +13,11 @@ use lib.ListN.{length}
 use Rattle.laws.specs.Tests.{all_from}
 use Rattle.laws.specs.Checks.{first_of, passes}
 use Rattle.laws.proofs.CheckLaws.{chain}
-use Rattle.answer.specs.declared.Answer.TheVariants.{Load, NotASubmission, BadSubmission}
+use Rattle.answer.specs.declared.Refusal.TheVariants.{NotASubmission, BadSubmission}
 use Rattle.submission.specs.Scan.{has_zero}
 use Rattle.submission.specs.Format.{module_count, line_length, parts_end, max_modules}
 use Rattle.submission.specs.Layout.{line_part, layout_of, bytes_of}
-use Rattle.submission.specs.Parse.{no_layout, parsed_submission}
+use Rattle.submission.specs.Parse.{parsed_submission}
 use Rattle.submission.specs.FormatLaws.{layout_line, layout_count, layout_end}
 use Rattle.submission.specs.Rules.{max_line, is_submission, entry_holds, string_holds, rules_hold, submission_checks}
 use Rattle.submission.specs.declared.Layout.{Layout}
@@ -58,14 +59,14 @@ module _ (s : List ℕ) where
   unfolding rules_hold
   else_strings n l a e z = rw (le-leb (module_count s) max_modules n, le-leb (line_length s) max_line l, a, eq-eqb (parts_end s) (length s) e, z) refl
 
-  pub not_parsed : is_submission s ≡ false → record { answer = NotASubmission; layout = no_layout } ≡ parsed_submission s
-  unfolding parsed_submission submission_checks passes first_of
+  pub not_parsed : is_submission s ≡ false → Err NotASubmission ≡ parsed_submission s
+  unfolding parsed_submission submission_checks first_of
   not_parsed h = rw h refl
 
-  pub bad_parsed : is_submission s ≡ true → rules_hold s ≡ false → record { answer = BadSubmission; layout = no_layout } ≡ parsed_submission s
-  unfolding parsed_submission submission_checks passes first_of
+  pub bad_parsed : is_submission s ≡ true → rules_hold s ≡ false → Err BadSubmission ≡ parsed_submission s
+  unfolding parsed_submission submission_checks first_of
   bad_parsed h k = rw (h, k) refl
 
-  pub good_parsed : is_submission s ≡ true → rules_hold s ≡ true → record { answer = Load; layout = layout_of s } ≡ parsed_submission s
-  unfolding parsed_submission submission_checks passes first_of
+  pub good_parsed : is_submission s ≡ true → rules_hold s ≡ true → Ok (layout_of s) ≡ parsed_submission s
+  unfolding parsed_submission submission_checks first_of
   good_parsed h k = rw (h, k) refl

@@ -1,12 +1,11 @@
 -- What an accepted submission keeps.
---     submission_refuses                                       the checks on it refuse
 --     GoodSubmission, good_submission, submission-good         every rule of a submission, as facts: it is good_submission exactly where they hold
 --     image_inside, line_inside, data_inside, string_inside    its parts lie inside it
 --     line_no_zero, string_no_zero                             no zero byte in its command line and strings
 --     image_bound, data_bound                                  lengths of 32 bits
---     parsed_layout, parsed_none, parsed_modules               what a parse gives
+--     parsed_good, parsed_layout, parsed_none                  what a parse gives
 -- Assumes nothing.
-use Rattle.std.specs.Prelude.{◌≡◌, Bool, false, ◌&&◌, ◌||◌, ◌⊎◌, ◌↔◌, List, ℕ, ◌+◌, ◌^◌, ◌≤◌, ◌<◌, length, take, drop, get_or}
+use Rattle.std.specs.Prelude.{Result, Ok, Err, ◌≡◌, Bool, false, ◌&&◌, ◌||◌, ◌⊎◌, ◌↔◌, List, ℕ, ◌+◌, ◌^◌, ◌≤◌, ◌<◌, length, take, drop, get_or}
 use Rattle.std.proofs.Math.Path.{refl}
 use Rattle.std.proofs.Common.{◌∙◌, inl, inr, eq-or-lt_of_le}
 use Rattle.std.proofs.Math.Bool.{true, not}
@@ -17,17 +16,19 @@ use borrow.Author.Tests.{leb-true, le-leb, eqb-true, eq-eqb, not-true, not-false
 use Rattle.std.proofs.Math.Dec.{leb, eqb}
 use Rattle.laws.specs.Tests.{all_from}
 use Rattle.laws.proofs.TestLaws.{true_or_false, and_left, and_right, all_intro, all_elim}
-use Rattle.laws.specs.Checks.{passes}
+use Rattle.laws.specs.Checks.{first_of, passes}
+use Rattle.laws.proofs.CheckLaws.{passes_on, ok_passed, err_failed}
 use Rattle.number.specs.NumberLaws.{Bytes, bytes_drop, number_bound}
-use Rattle.answer.specs.ChainLaws.{refuses}
+use Rattle.answer.specs.declared.Refusal.{Refusal}
 use Rattle.submission.specs.Scan.{has_zero, same_bytes}
 use Rattle.submission.specs.ScanLaws.{no_zero, same_is, zero_free}
 use Rattle.submission.specs.Format.{mark, version, module_count, image_length, line_length, prefix_size, entry_offset, data_length, string_length, ceiling, image_start, line_start, data_start, string_start, parts_end, line_bytes, string_bytes, max_modules}
 use Rattle.submission.specs.Layout.{line_part, module_of, layout_of, bytes_of}
-use Rattle.submission.specs.Parse.{no_layout, parsed_submission}
+use Rattle.submission.specs.Parse.{parsed_submission}
 use Rattle.submission.specs.FormatLaws.{data_behind_line, data_behind_string, data_order, length-bytes_of, bytes_of_at, layout_count}
 use Rattle.submission.specs.Rules.{max_line, max_string, is_submission, in_limits, entry_holds, string_holds, rules_hold, submission_checks}
 use Rattle.submission.specs.declared.Part.{Part}
+use Rattle.submission.specs.declared.Layout.{Layout}
 use Rattle.submission.specs.GoodSubmission.{GoodSubmission, NoZero, Marked}
 
 -- no zero byte in a part
@@ -57,10 +58,6 @@ no_ceiling_is v c = (
 )
 
 module _ (s : List ℕ) where
-  pub submission_refuses : refuses (submission_checks s) ≡ true
-  unfolding refuses submission_checks
-  submission_refuses = refl
-
   header_facts : is_submission s ≡ true → (prefix_size ≤ length s) × (take 3 s ≡ mark) × ((version s ≡ 1) ⊎ (version s ≡ 2))
   unfolding is_submission
   header_facts h =
@@ -83,13 +80,18 @@ module _ (s : List ℕ) where
   unfolding passes submission_checks
   holds_rules h = not-false _ (not-true _ (and_left (not (not (rules_hold s))) true (and_right (not (not (is_submission s))) (not (not (rules_hold s)) && true) h)))
 
-  pub parsed_layout : passes (submission_checks s) ≡ true → (parsed_submission s).layout ≡ layout_of s
+  -- what a parse gives
+  pub parsed_good : passes (submission_checks s) ≡ true → parsed_submission s ≡ Ok (layout_of s)
   unfolding parsed_submission
-  parsed_layout h = rw h refl
+  parsed_good h = passes_on (submission_checks s) (layout_of s) h
 
-  pub parsed_none : passes (submission_checks s) ≡ false → (parsed_submission s).layout ≡ no_layout
+  pub parsed_layout : (l : Layout) → parsed_submission s ≡ Ok l → (passes (submission_checks s) ≡ true) × (l ≡ layout_of s)
   unfolding parsed_submission
-  parsed_none h = rw h refl
+  parsed_layout l h = ok_passed (submission_checks s) l (layout_of s) h
+
+  pub parsed_none : (r : Refusal) → parsed_submission s ≡ Err r → passes (submission_checks s) ≡ false
+  unfolding parsed_submission
+  parsed_none r h = err_failed (submission_checks s) r (layout_of s) h
 
   -- the rules, one by one
   rules_apart : rules_hold s ≡ true
@@ -162,15 +164,6 @@ module _ (s : List ℕ) where
   -- an accepted submission keeps them
   pub good_submission : passes (submission_checks s) ≡ true → GoodSubmission s
   good_submission h = rules_good (holds_rules h)
-
--- the layout that a parse gives has room for its modules, refused or not
-pub parsed_modules : (s : List ℕ) → (parsed_submission s).layout.count ≤ max_modules
-unfolding no_layout
-parsed_modules s =
-    ⊎_elim
-    (λ (h : passes (submission_checks s) ≡ true). rw (parsed_layout s h, layout_count s) (good_submission s h).count)
-    (λ (h : passes (submission_checks s) ≡ false). rw (parsed_none s h) (omega arith))
-    (true_or_false (passes (submission_checks s)))
 
 module _ (s : List ℕ) (h : GoodSubmission s) where
   pub image_inside : image_start s + image_length s ≤ length s

@@ -5,8 +5,8 @@
 use Rattle.std.specs.Prelude.{Bool, not, ◌&&◌, ◌||◌, List, [], ◌∷◌, ℕ, leb, eqb, length, take}
 use Rattle.laws.specs.Tests.{all_from}
 use Rattle.laws.specs.Checks.{Check, ◌gives◌}
-use Rattle.answer.specs.declared.Answer.{Answer}
-use Rattle.answer.specs.declared.Answer.TheVariants.{NotASubmission, BadSubmission}
+use Rattle.answer.specs.declared.Refusal.{Refusal}
+use Rattle.answer.specs.declared.Refusal.TheVariants.{NotASubmission, BadSubmission}
 use Rattle.submission.specs.Scan.{has_zero, same_bytes}
 use Rattle.submission.specs.Format.{mark, version, module_count, line_length, prefix_size, parts_end, max_modules}
 use Rattle.submission.specs.Layout.{table_entry, line_part, module_of, bytes_of}
@@ -45,5 +45,5 @@ rules_hold s =
     && all_from (string_holds s) 0 (module_count s)
 
 -- 1, then 2
-unfoldable pub submission_checks : List ℕ → List (Check Answer)
+unfoldable pub submission_checks : List ℕ → List (Check Refusal)
 submission_checks s = not (is_submission s) gives NotASubmission ∷ not (rules_hold s) gives BadSubmission ∷ []

@@ -3,10 +3,9 @@
 
 ghost use Rattle.std.specs.Prelude.{◌≡◌};
 ghost use Rattle.submission.specs.Layout.{bytes_of};
-ghost use Rattle.submission.specs.Parse.{no_layout};
 ghost use Rattle.submission.specs.Parse.{parsed_submission};
 
-use answer::Answer;
+use answer::{Answer, Refusal};
 
 mod read;
 mod rules;
@@ -53,43 +52,23 @@ pub struct Layout {
     pub end: usize,
 }
 
-// The answer for a submission, and its parts where it is accepted.
-#[derive(Clone, Copy)]
-pub struct ParsedSubmission {
-    pub answer: Answer,
-    pub layout: Layout,
-}
-
-// The answer for a submission: its parts, or 1 or 2 and no parts. It is inlined since a call would take 700 bytes of stack more.
+// The parts of a submission, or 1 or 2. It is inlined since a call would take 700 bytes of stack more.
 #[inline(always)]
-pub fn parse(s: &[u8]) -> ParsedSubmission
+pub fn parse(s: &[u8]) -> Answer<Layout>
     ensures { result ≡ parsed_submission s.now }
 {
     if !rules::is_submission(s) {
-        return refused(Answer::NotASubmission);
+        return Err(Refusal::NotASubmission);
     }
     let count = read::module_count(s);
     if MAX_MODULES < count {
-        return refused(Answer::BadSubmission);
+        return Err(Refusal::BadSubmission);
     }
     let layout = read::read_layout(s, count);
     if !rules::rules_hold(s, layout) {
-        return refused(Answer::BadSubmission);
+        return Err(Refusal::BadSubmission);
     }
-    ParsedSubmission {
-        answer: Answer::Load,
-        layout,
-    }
-}
-
-// A refusal has no parts.
-fn refused(a: Answer) -> ParsedSubmission
-    ensures { result ≡ record { answer = a; layout = no_layout } }
-{
-    ParsedSubmission {
-        answer: a,
-        layout: read::no_layout(),
-    }
+    Ok(layout)
 }
 
 // The bytes of a part, cut where the slice ends.

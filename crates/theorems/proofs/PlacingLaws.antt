@@ -17,7 +17,7 @@ use Rattle.address.specs.Span.{no_span, span_no, Holds}
 use Rattle.answer.specs.Answer.{is_load, number_of}
 use Rattle.answer.specs.ChainLaws.{numbers, distinct, applies_for, applies_other, applies_front, chain_append, or_else_second, none_given}
 use Rattle.answer.specs.Chain.{check_order, place_in, Before}
-use Rattle.answer.specs.declared.Answer.TheVariants.{Load, NoRoomForModule, NoRoomForBlock}
+use Rattle.answer.specs.declared.Refusal.TheVariants.{NoRoomForModule, NoRoomForBlock}
 use Rattle.submission.specs.Rules.{submission_checks}
 use Rattle.submission.specs.Layout.{layout_of}
 use Rattle.submission.specs.Format.{module_count, data_length, ceiling}

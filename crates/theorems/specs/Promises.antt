@@ -19,7 +19,7 @@ use Rattle.address.specs.Span.{no_span, span_no, Holds}
 use Rattle.address.specs.declared.Span.{Span}
 use Rattle.answer.specs.Answer.{number_of, item_of}
 use Rattle.answer.specs.Chain.{check_order, place_in, Before}
-use Rattle.answer.specs.declared.Answer.TheVariants.{NoRoomForModule, NoRoomForBlock}
+use Rattle.answer.specs.declared.Refusal.TheVariants.{NoRoomForModule, NoRoomForBlock}
 use Rattle.submission.specs.Format.{module_count, data_length, string_length, ceiling, data_start, image_bytes, string_bytes}
 use Rattle.submission.specs.GoodSubmission.{NoZero, Marked, GoodSubmission}
 use Rattle.command_line.specs.LineInForce.{line_in_force}
