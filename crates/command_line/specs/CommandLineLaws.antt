@@ -1,5 +1,4 @@
 -- What an accepted operator's line and the command line in force keep.
---     operator_refuses                                                                                    the check on it refuses
 --     operator_length, operator_text                                                                      an good_submission operator's line
 --     line_refused_submission, line_refused_operator, line_of_operator, line_of_submission, line_cases    which line is in force
 --     line_length_lem, line_text_lem, line_zero_free                                                      the line in force, whatever was lent
@@ -13,7 +12,6 @@ use borrow.Author.Tests.{ltb-false, not-true}
 use Rattle.laws.proofs.TestLaws.{true_or_false, or_none_left, or_none_right, and_left, lt_or_le}
 use Rattle.laws.specs.Checks.{passes}
 use Rattle.laws.proofs.CheckLaws.{passes_append}
-use Rattle.answer.specs.ChainLaws.{refuses}
 use Rattle.submission.specs.Scan.{has_zero}
 use Rattle.submission.specs.ScanLaws.{no_zero, zero_free}
 use Rattle.submission.specs.Layout.{line_part, bytes_of}
@@ -26,10 +24,6 @@ use Rattle.command_line.specs.CommandLine.{operator_checks, command_line}
 use Rattle.command_line.specs.LineInForce.{line_in_force}
 
 module _ (line : List ℕ) where
-  pub operator_refuses : refuses (operator_checks line) ≡ true
-  unfolding refuses operator_checks
-  operator_refuses = refl
-
   neither : passes (operator_checks line) ≡ true → ltb max_line (length line) || has_zero line ≡ false
   unfolding passes operator_checks
   neither h = not-true _ (and_left (not (ltb max_line (length line) || has_zero line)) true h)
