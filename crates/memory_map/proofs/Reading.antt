@@ -3,7 +3,7 @@
 --     none_read, one_more    no pair is read; one pair more
 --     too_many, is_broken    what refuses the map
 --     all_read               no pair is left
-use Rattle.std.specs.Prelude.{◌≡◌, true, false, ◌||◌}
+use Rattle.std.specs.Prelude.{Ok, ◌≡◌, true, false, ◌||◌}
 use Rattle.std.proofs.Math.Path.{refl, ap}
 use mathlib.Core.List.{List}
 use Prim.Native.Nat.{ℕ, ◌+◌, ◌≤◌, ◌<◌}
@@ -55,9 +55,9 @@ module _ (m : List ℕ) (pairs : List Pair) (n at : ℕ) (r : Reading m pairs n 
       }
 
   -- no pair is left
-  pub all_read : (length m ≡ 0 → ⊥) → length m ≤ max_map → length m ≤ at → record { answer = Load; map = record { pairs = pairs; count = n } } ≡ parsed_map m
+  pub all_read : (length m ≡ 0 → ⊥) → length m ≤ max_map → length m ≤ at → Ok (record { pairs = pairs; count = n }) ≡ parsed_map m
   unfolding first_pairs
   all_read z k l =
       let e : pair_count m ≡ n = whole_all m n r.whole (omega (arith, r.place)) in
       let g : bad_map m ≡ false = counted_good m (record { some = omega arith; short = k; few = omega (arith, r.few); whole = rw e r.whole }) in
-      rw (← parsed_good m g, e, r.read) refl
+      rw (parsed_good m g, e, r.read) refl

@@ -5,13 +5,12 @@
 --     broken_bad, empty_bad, long_bad, many_bad         what refuses a map
 --     counted_good, good_counted, map_good_is           a map is accepted exactly where it keeps all its rules
 --     good_some, good_fills                             an accepted map has a pair, and its pairs fill it
---     map_refuses                                       the check on it refuses
 --     parsed_bad, parsed_good, load_good                what reading a map answers
 --     pair_listed, pair_past, length_pairs              which pair stands at which index
 --     pair_fits, pairs_fit                              the ranges of a pair's fields
 --     parsed_pairs, parsed_length, parsed_fits          the same of what reading a map gives, refused or not
 -- Assumes nothing.
-use Rattle.std.specs.Prelude.{◌≡◌, true, false, ◌||◌, ◌↔◌}
+use Rattle.std.specs.Prelude.{Ok, Err, ◌≡◌, true, false, ◌||◌, ◌↔◌}
 use Rattle.std.proofs.Math.Path.{refl, ap}
 use Rattle.std.proofs.Common.{sym, ◌∙◌, zero-add, eq-or-lt_of_le, le_of_suc-le-suc}
 use Rattle.std.proofs.lemmas.Bool.{false≢true}
@@ -26,15 +25,15 @@ use Rattle.std.proofs.Math.ListN.{length}
 use Rattle.laws.specs.Tests.{any}
 use Rattle.laws.proofs.TestLaws.{Run, run_says, any_here, any_none, none_any, or_cases, or_none_left, or_none_right, lt_or_le, true_or_false}
 use Rattle.laws.proofs.TableLaws.{length_table, table_at, table_past, replicate_at}
-use Rattle.laws.specs.Checks.{first_of}
+use Rattle.laws.specs.Checks.{first_of, passes}
 use Rattle.laws.proofs.CheckLaws.{chain}
 use Rattle.number.specs.NumberLaws.{Bytes, bytes_drop, number_bound}
 use Rattle.answer.specs.declared.Refusal.TheVariants.{BadMemoryMap}
-use Rattle.answer.specs.ChainLaws.{refuses, check_passed}
+use Rattle.laws.proofs.CheckLaws.{check_passed}
 use Rattle.memory_map.specs.declared.Pair.{Pair}
 use Rattle.memory_map.specs.Pairs.{base_offset, length_offset, kind_offset, size_at, next_offset, pair_offset}
 use Rattle.memory_map.specs.Map.{max_map, min_pair_size, begins, pair_count, too_small, past_end, bad_map, map_checks, pair_at, first_pairs, map_of, max_pairs, no_pair, pair_no}
-use Rattle.memory_map.specs.Parse.{no_map, parsed_map}
+use Rattle.memory_map.specs.Parse.{parsed_map, pairs_read}
 use Rattle.memory_map.specs.GoodMap.{Begins, GoodMap}
 
 -- the first n pairs keep their rules: none is too small, and none runs past the end
@@ -210,22 +209,18 @@ module _ (m : List ℕ) where
   )
 
   -- what reading a map answers
-  pub parsed_bad : bad_map m ≡ true → record { answer = BadMemoryMap; map = no_map } ≡ parsed_map m
+  pub parsed_bad : bad_map m ≡ true → parsed_map m ≡ Err BadMemoryMap
   unfolding parsed_map map_checks first_of
   parsed_bad t = rw t refl
 
-  pub parsed_good : bad_map m ≡ false → record { answer = Load; map = map_of m } ≡ parsed_map m
+  pub parsed_good : bad_map m ≡ false → parsed_map m ≡ Ok (map_of m)
   unfolding parsed_map map_checks first_of
   parsed_good t = rw t refl
 
-  pub map_refuses : refuses (map_checks m) ≡ true
-  unfolding refuses map_checks
-  map_refuses = refl
-
   -- a map that is not refused by the order of checks is good
-  pub load_good : first_of (map_checks m) Load ≡ Load → bad_map m ≡ false
+  pub load_good : passes (map_checks m) ≡ true → bad_map m ≡ false
   unfolding map_checks
-  load_good e = (check_passed (bad_map m) BadMemoryMap [] refl e).0
+  load_good h = (check_passed (bad_map m) BadMemoryMap [] h).0
 
   -- an accepted map has a pair, and its pairs fill it
   pub good_some : bad_map m ≡ false → 1 ≤ pair_count m
@@ -280,17 +275,17 @@ pairs_fit m b n i =
 
 -- what reading a map gives, refused or not
 module _ (m : List ℕ) where
-  pub parsed_pairs : (parsed_map m).map.count ≤ max_pairs
-  unfolding parsed_map first_pairs
+  pub parsed_pairs : (pairs_read m).count ≤ max_pairs
+  unfolding parsed_map first_pairs first_of map_checks
   parsed_pairs = ⊎_elim (λ (t : bad_map m ≡ true). rw t (omega arith)) (λ (t : bad_map m ≡ false). rw t (good_counted m t).few) (true_or_false (bad_map m))
 
-  pub parsed_length : length (parsed_map m).map.pairs ≡ max_pairs
-  unfolding parsed_map
+  pub parsed_length : length (pairs_read m).pairs ≡ max_pairs
+  unfolding parsed_map first_of map_checks
   parsed_length =
       ⊎_elim (λ (t : bad_map m ≡ true). rw t refl) (λ (t : bad_map m ≡ false). rw t (length_pairs m (pair_count m) (good_counted m t).few)) (true_or_false (bad_map m))
 
-  pub parsed_fits : Bytes m → (i : ℕ) → PairFits (pair_no (parsed_map m).map i)
-  unfolding parsed_map
+  pub parsed_fits : Bytes m → (i : ℕ) → PairFits (pair_no (pairs_read m) i)
+  unfolding parsed_map first_of map_checks
   parsed_fits b i =
       ⊎_elim
       (λ (t : bad_map m ≡ true). rw (t, replicate_at max_pairs i no_pair) (record { base = omega arith; length = omega arith; kind = omega arith }))

@@ -6,7 +6,7 @@ ghost use Rattle.memory_map.specs.Pairs.{kind_offset};
 ghost use Rattle.memory_map.specs.Map.{max_pairs, pair_at, too_small, past_end};
 ghost use Rattle.memory_map.specs.Parse.{parsed_map, no_map};
 
-use answer::Answer;
+use answer::{Answer, Refusal};
 
 // The limits of a map.
 pub const MAX_PAIRS: usize = 32;
@@ -52,22 +52,15 @@ impl MemoryMap {
     }
 }
 
-// What reading a map answers: Load and its pairs, or the refusal and no pairs.
-#[derive(Clone, Copy)]
-pub struct ParsedMap {
-    pub answer: Answer,
-    pub map: MemoryMap,
-}
-
 // Reads a map, or refuses it where it breaks a rule of its format.
-pub fn parse(m: &[u8]) -> ParsedMap
+pub fn parse(m: &[u8]) -> Answer<MemoryMap>
     ensures { result ≡ parsed_map m.now }
 {
     if m.len() == 0 {
-        return refused();
+        return Err(Refusal::BadMemoryMap);
     }
     if MAX_MAP < m.len() {
-        return refused();
+        return Err(Refusal::BadMemoryMap);
     }
     let empty = no_map();
     let mut pairs = empty.pairs;
@@ -75,20 +68,17 @@ pub fn parse(m: &[u8]) -> ParsedMap
     let mut at = 0;
     while at < m.len() {
         if count == MAX_PAIRS {
-            return refused();
+            return Err(Refusal::BadMemoryMap);
         }
         if broken(m, at) {
-            return refused();
+            return Err(Refusal::BadMemoryMap);
         }
         pairs[count] = read_pair(m, at);
         count += 1;
         let size = number::read_u32(m, at) as usize;
         at += size + SIZE_BYTES;
     }
-    ParsedMap {
-        answer: Answer::Load,
-        map: MemoryMap { pairs, count },
-    }
+    Ok(MemoryMap { pairs, count })
 }
 
 // Whether the pair at `at` is too small or runs past the end.
@@ -118,16 +108,6 @@ fn read_pair(m: &[u8], at: usize) -> Pair
         base: number::read_u64(m, at + BASE_OFFSET),
         length: number::read_u64(m, at + LENGTH_OFFSET),
         kind: number::read_u32(m, at + KIND_OFFSET) as u64,
-    }
-}
-
-// The answer to a map that breaks a rule.
-fn refused() -> ParsedMap
-    ensures { result ≡ record { answer = Answer.BadMemoryMap; map = no_map } }
-{
-    ParsedMap {
-        answer: Answer::BadMemoryMap,
-        map: no_map(),
     }
 }
 
