@@ -2,12 +2,12 @@
 #![tactic(auto)]
 
 ghost use Rattle.std.specs.Prelude.{◌≡◌, ◌+◌, ◌≤◌};
-ghost use Rattle.kernel.specs.Kernel.{max_segments, no_segment, no_kernel, segment_no, extent_no};
+ghost use Rattle.kernel.specs.Kernel.{max_segments, no_segment, segment_no, extent_no};
 ghost use Rattle.kernel.specs.Checks.{entry_outside, overlaps_earlier, extents_overlap};
-ghost use Rattle.kernel.specs.Judge.{refused, with_entry};
+ghost use Rattle.kernel.specs.Judge.{with_entry};
 
 use address::{ImageOffset, PhysAddr, Span};
-use answer::Answer;
+use answer::{Answer, Refusal};
 
 // At most so many segments.
 pub const MAX_SEGMENTS: usize = 16;
@@ -43,13 +43,6 @@ pub struct Kernel {
     pub count: usize,
 }
 
-// The answer of an image's checks, and its kernel; with a refusal the kernel is all zeros.
-#[derive(Clone, Copy)]
-pub struct Judged {
-    pub answer: Answer,
-    pub kernel: Kernel,
-}
-
 // A segment of zeros.
 pub fn no_segment() -> Segment
     ensures { result ≡ no_segment }
@@ -59,20 +52,6 @@ pub fn no_segment() -> Segment
         load_end: PhysAddr(0),
         extent_end: PhysAddr(0),
         offset: ImageOffset(0),
-    }
-}
-
-// A kernel of zeros.
-pub fn no_kernel() -> Kernel
-    ensures { result ≡ no_kernel }
-{
-    Kernel {
-        header: ImageOffset(0),
-        false_headers: 0,
-        pages: false,
-        entry: PhysAddr(0),
-        segments: [no_segment(); MAX_SEGMENTS],
-        count: 0,
     }
 }
 
@@ -147,30 +126,15 @@ fn loaded(kernel: Kernel, i: usize) -> Span
     Span { start, end }
 }
 
-// The answer of the checks so far and then of the one on the entry, with the kernel, or with zeros where it is a refusal.
-#[tactic(auto, unfolding(crate::specs::Judge::with_kernel, crate::specs::Checks::entry_checks, laws::specs::Checks::first_of, answer::specs::Answer::or_else))]
-pub fn judge_entry(answer: Answer, kernel: Kernel) -> Judged
+// The kernel, if neither the checks so far nor the one on the entry refuses it.
+#[tactic(auto, unfolding(crate::specs::Checks::entry_checks, laws::specs::Checks::first_of))]
+pub fn judge_entry(answer: Answer<()>, kernel: Kernel) -> Answer<Kernel>
     requires { kernel.count ≤ max_segments }
     ensures { result ≡ with_entry answer kernel }
 {
-    if !answer::is_load(answer) {
-        return refused(answer);
-    }
+    answer?;
     if entry_outside(kernel) {
-        return refused(Answer::EntryOutsideLoad);
+        return Err(Refusal::EntryOutsideLoad);
     }
-    Judged {
-        answer: Answer::Load,
-        kernel,
-    }
-}
-
-// The answer with zeros.
-pub fn refused(answer: Answer) -> Judged
-    ensures { result ≡ refused answer }
-{
-    Judged {
-        answer,
-        kernel: no_kernel(),
-    }
+    Ok(kernel)
 }
