@@ -15,11 +15,11 @@ use Rattle.std.proofs.lemmas.Bool.{false≢true, eqb-false, not-false}
 use Rattle.laws.specs.Passing.{passing}
 use Rattle.laws.proofs.PassingLaws.{passing_most, passing_at, passing_rising, passing_every}
 use Rattle.laws.specs.Tests.{any}
-use Rattle.laws.specs.Checks.{first_of, ◌gives◌}
+use Rattle.laws.specs.Checks.{passes, ◌gives◌}
 use Rattle.laws.proofs.TestLaws.{true_or_false, lt_or_le, and_left, and_right, and_is, not_is, eqb_is, or_none_left, or_none_right, none_is}
 use Rattle.address.specs.Span.{Holds}
 use Rattle.answer.specs.declared.Refusal.TheVariants.{BadElf, BadProgramHeader, SegmentsOverlap}
-use Rattle.answer.specs.ChainLaws.{check_passed}
+use Rattle.laws.proofs.CheckLaws.{check_passed}
 use Rattle.kernel.specs.declared.Segment.{Segment}
 use Rattle.kernel.specs.declared.FoundHeader.{FoundHeader}
 use Rattle.kernel.specs.declared.Kernel.{Kernel}
@@ -241,16 +241,16 @@ pub record ElfPassed (image : List ℕ) (k : Kernel) : Type 0 where
   pub segments : (i : ℕ) → i < k.count → GoodSegment image (segment_no k i)
   pub apart : extents_overlap k ≡ false
 
-module _ (image : List ℕ) (found : FoundHeader) (e : first_of (elf_checks image (elf_kernel image found)) Load ≡ Load) where
+module _ (image : List ℕ) (found : FoundHeader) (e : passes (elf_checks image (elf_kernel image found)) ≡ true) where
   abbrev unformed : Bool
   unformed = not (well_formed (elf_header image) (length image)) || eqb (elf_kernel image found).count 0
 
-  passed_18 : (unformed ≡ false) × (first_of (any (bad_no image) (elf_header image).e_phnum gives BadProgramHeader ∷ extents_overlap (elf_kernel image found) gives SegmentsOverlap ∷ []) Load ≡ Load)
+  passed_18 : (unformed ≡ false) × (passes (any (bad_no image) (elf_header image).e_phnum gives BadProgramHeader ∷ extents_overlap (elf_kernel image found) gives SegmentsOverlap ∷ []) ≡ true)
   unfolding elf_checks
-  passed_18 = check_passed unformed BadElf _ refl e
+  passed_18 = check_passed unformed BadElf _ e
 
-  passed_19 : (any (bad_no image) (elf_header image).e_phnum ≡ false) × (first_of (extents_overlap (elf_kernel image found) gives SegmentsOverlap ∷ []) Load ≡ Load)
-  passed_19 = check_passed (any (bad_no image) (elf_header image).e_phnum) BadProgramHeader _ refl passed_18.1
+  passed_19 : (any (bad_no image) (elf_header image).e_phnum ≡ false) × (passes (extents_overlap (elf_kernel image found) gives SegmentsOverlap ∷ []) ≡ true)
+  passed_19 = check_passed (any (bad_no image) (elf_header image).e_phnum) BadProgramHeader _ passed_18.1
 
   good_segment : (i : ℕ) → i < (elf_kernel image found).count → GoodSegment image (segment_no (elf_kernel image found) i)
   good_segment i l =
@@ -271,7 +271,7 @@ module _ (image : List ℕ) (found : FoundHeader) (e : first_of (elf_checks imag
       record {
         few = omega (arith, entries);
         segments = good_segment;
-        apart = (check_passed (extents_overlap (elf_kernel image found)) SegmentsOverlap _ refl passed_19.1).0;
+        apart = (check_passed (extents_overlap (elf_kernel image found)) SegmentsOverlap _ passed_19.1).0;
       }
     where
       entries : (elf_kernel image found).count ≤ 16

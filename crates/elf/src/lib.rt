@@ -11,8 +11,8 @@ ghost use Rattle.elf.specs.Read.{HeaderRead, table_checks};
 ghost use Rattle.elf.specs.Segments.{elf_kernel};
 ghost use Rattle.elf.specs.Checks.{bad_no, elf_checks};
 
-use answer::Answer;
-use kernel::{FoundHeader, Judged, Kernel, MAX_SEGMENTS};
+use answer::{Answer, Refusal};
+use kernel::{FoundHeader, Kernel, MAX_SEGMENTS};
 use read::ElfHeader;
 
 mod check;
@@ -35,18 +35,17 @@ pub struct Table {
     pub bad: bool,
 }
 
-// The answer of checks 18 to 20 and 14, and the kernel of an ELF image with this Multiboot header.
-pub fn judge(image: &[u8], found: FoundHeader) -> Judged
-    ensures { result ≡ with_entry (first_of (elf_checks image.now (elf_kernel image.now found)) Answer.Load) (elf_kernel image.now found) }
+// The kernel of an ELF image with this Multiboot header, or the first of checks 18 to 20 and 14 that refuses it.
+pub fn judge(image: &[u8], found: FoundHeader) -> Answer<Kernel>
+    ensures { result ≡ with_entry (first_of (elf_checks image.now (elf_kernel image.now found)) tt) (elf_kernel image.now found) }
 {
     let h = read::read_header(image);
     if !check::well_formed(h, image.len()) {
-        return kernel::refused(Answer::BadElf);
+        return Err(Refusal::BadElf);
     }
     let table = read_table(image, h, found);
     let kernel = table.kernel;
-    let answer = check_table(kernel, table.bad);
-    kernel::judge_entry(answer, kernel)
+    kernel::judge_entry(check_table(kernel, table.bad), kernel)
 }
 
 // The table's segments, in table order, and whether a program header is bad.
@@ -84,18 +83,18 @@ fn read_table(image: &[u8], h: ElfHeader, found: FoundHeader) -> Table
 
 // The first check that refuses a table with this kernel, where the header is well formed.
 #[tactic(auto, unfolding(crate::specs::Read::table_checks, laws::specs::Checks::first_of))]
-fn check_table(kernel: Kernel, bad: bool) -> Answer
+fn check_table(kernel: Kernel, bad: bool) -> Answer<()>
     requires { kernel.count ≤ max_segments }
-    ensures { result ≡ first_of (table_checks kernel bad) Answer.Load }
+    ensures { result ≡ first_of (table_checks kernel bad) tt }
 {
     if kernel.count == 0 {
-        return Answer::BadElf;
+        return Err(Refusal::BadElf);
     }
     if bad {
-        return Answer::BadProgramHeader;
+        return Err(Refusal::BadProgramHeader);
     }
     if kernel::extents_overlap(kernel) {
-        return Answer::SegmentsOverlap;
+        return Err(Refusal::SegmentsOverlap);
     }
-    Answer::Load
+    Ok(())
 }
