@@ -5,7 +5,7 @@
 --     header_same, searched_part, searched_cut
 --                                      what stands behind the searched part has no share in the answer
 -- Assumes nothing.
-use Rattle.std.specs.Prelude.{◌≡◌, ℕ, ◌+◌, ◌*◌, ◌/◌, ◌%◌, ◌<◌, ◌≤◌, min, Bool, true, false, not, ◌&&◌, ◌↔◌, List, length, take, ◌==◌}
+use Rattle.std.specs.Prelude.{◌≡◌, ℕ, ◌+◌, ◌*◌, ◌/◌, ◌%◌, ◌<◌, ◌≤◌, min, Bool, true, false, not, ◌&&◌, ◌↔◌, List, length, take, ◌==◌, Option, Some, None}
 use Rattle.std.proofs.Math.Path.{ap, sym}
 use Rattle.std.proofs.Common.{◌∙◌, arith, take_all}
 use Rattle.std.proofs.Math.Logic.{⊎_elim}
@@ -18,8 +18,6 @@ use Rattle.laws.proofs.TestLaws.{lt_or_le, eqb_is, not_is, and_is}
 use Rattle.laws.proofs.CheckLaws.{and_both, and_fails_left, and_fails_right, not_to_true}
 use Rattle.number.specs.Number.{number_at}
 use Rattle.address.specs.declared.ImageOffset.{ImageOffset}
-use Rattle.header.specs.declared.Search.{Search}
-use Rattle.header.specs.declared.Search.TheVariants.{At, Nothing}
 use Rattle.header.specs.Header.{header_magic, search_limit, short_header, has_room, sum_is_zero, words, header_from, header}
 use Rattle.header.specs.FalseHeader.{is_false_header, is_false_header_at, is_false_place, places_passed, false_headers, searched}
 use Rattle.header.specs.HeaderAt.{FalseHeaderAt}
@@ -68,17 +66,17 @@ module _ (image : List ℕ) where
   abbrev FalsePlace : ℕ → Type 0
   FalsePlace k = FalseHeaderAt image (4 * k)
 
-  counted : (r : Search) → header image ≡ r → HowMany FalsePlace (places_passed r) (false_headers image)
+  counted : (r : Option ImageOffset) → header image ≡ r → HowMany FalsePlace (places_passed r) (false_headers image)
   unfolding false_headers
   counted r e = rw e (passing_how_many (is_false_place image) FalsePlace (places_passed r) (λ k. false_is image (4 * k) (omega arith)))
 
   -- below the header found
-  pub false_below : (o : ImageOffset) → header image ≡ At o → HowMany FalsePlace (o.0 / 4) (false_headers image)
-  false_below o = counted (At o)
+  pub false_below : (o : ImageOffset) → header image ≡ Some o → HowMany FalsePlace (o.0 / 4) (false_headers image)
+  false_below o = counted (Some o)
 
   -- in the searched part, where there is no header
-  pub false_anywhere : header image ≡ Nothing → HowMany FalsePlace 2048 (false_headers image)
-  false_anywhere = counted Nothing
+  pub false_anywhere : header image ≡ None → HowMany FalsePlace 2048 (false_headers image)
+  false_anywhere = counted None
 
   pub false_most : false_headers image ≤ 2046
   unfolding false_headers

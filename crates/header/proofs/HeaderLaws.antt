@@ -4,7 +4,7 @@
 --     header_lowest, lowest_header    the search finds o exactly where o is the lowest offset of a header
 --     header_none, none_header        it finds nothing exactly where there is no header
 -- Assumes nothing.
-use Rattle.std.specs.Prelude.{◌≡◌, ℕ, zero, suc, ◌+◌, ◌-◌, ◌*◌, ◌/◌, ◌%◌, ◌^◌, ◌<◌, ◌≤◌, min, Bool, true, false, List, [], ◌∷◌, length, take, drop, nat_eq, refl}
+use Rattle.std.specs.Prelude.{◌≡◌, ℕ, zero, suc, ◌+◌, ◌-◌, ◌*◌, ◌/◌, ◌%◌, ◌^◌, ◌<◌, ◌≤◌, min, Bool, true, false, List, [], ◌∷◌, length, take, drop, nat_eq, refl, Option, Some, None}
 use Rattle.std.proofs.Common.{sym, ◌∙◌, subst, ⊎_elim, zero-add, suc-add, arith, eqb-true, eq-eqb, length-drop}
 use Rattle.std.proofs.lemmas.Bool.{false≢true}
 use Rattle.std.proofs.Math.ListN.{length-take}
@@ -14,8 +14,6 @@ use Rattle.laws.proofs.CheckLaws.{and_both}
 use Rattle.number.specs.Number.{number_at}
 use Rattle.number.specs.NumberLaws.{number_take}
 use Rattle.address.specs.declared.ImageOffset.{ImageOffset}
-use Rattle.header.specs.declared.Search.{Search}
-use Rattle.header.specs.declared.Search.TheVariants.{At, Nothing}
 use Rattle.header.specs.Header.{header_magic, search_limit, short_header, words, is_header, header_from, header}
 use Rattle.header.proofs.WalkLaws.{found_at, passed_at, none_left}
 use Rattle.header.specs.HeaderAt.{HeaderAt}
@@ -33,9 +31,9 @@ abbrev test : List ℕ → ℕ → Bool
 test s at = is_header (number_at 4 s at) (number_at 4 s (at + 4)) (number_at 4 s (at + 8))
 
 -- what the search from the offset `at` on says of the places four bytes apart
-abbrev Says : List ℕ → ℕ → Search → Type 0
-Says s at Nothing = (i : ℕ) → at + 4 * i + short_header ≤ length s → test s (at + 4 * i) ≡ false
-Says s at (At o) = (i : ℕ) × (o.0 ≡ at + 4 * i) × (o.0 + short_header ≤ length s) × (test s o.0 ≡ true) × ((j : ℕ) → j < i → test s (at + 4 * j) ≡ false)
+abbrev Says : List ℕ → ℕ → Option ImageOffset → Type 0
+Says s at None = (i : ℕ) → at + 4 * i + short_header ≤ length s → test s (at + 4 * i) ≡ false
+Says s at (Some o) = (i : ℕ) × (o.0 ≡ at + 4 * i) × (o.0 + short_header ≤ length s) × (test s o.0 ≡ true) × ((j : ℕ) → j < i → test s (at + 4 * j) ≡ false)
 
 module _ (s : List ℕ) where
   -- the place `at`, or a later one
@@ -43,13 +41,13 @@ module _ (s : List ℕ) where
   each at zero e h = let q : at + 4 * 0 ≡ at = omega arith in rw q e
   each at (suc j) e h = let q : at + 4 * suc j ≡ at + 4 + 4 * j = omega arith in rw q (h j refl)
 
-  after : (at : ℕ) → test s at ≡ false → (r : Search) → Says s (at + 4) r → Says s at r
-  after at e Nothing h = λ i l. each at i e (λ j q. h j (omega arith))
-  after at e (At o) h = (suc h.0, omega arith, h.2, h.3, λ i l. each at i e (λ j q. h.4 j (omega arith)))
+  after : (at : ℕ) → test s at ≡ false → (r : Option ImageOffset) → Says s (at + 4) r → Says s at r
+  after at e None h = λ i l. each at i e (λ j q. h j (omega arith))
+  after at e (Some o) h = (suc h.0, omega arith, h.2, h.3, λ i l. each at i e (λ j q. h.4 j (omega arith)))
 
   short : (at : ℕ) → length s < at + short_header → Says s at (header_from at (words (drop at s)))
   short at l =
-      let e : header_from at (words (drop at s)) ≡ Nothing = none_left at (drop at s) (simp length-drop (omega arith)) in
+      let e : header_from at (words (drop at s)) ≡ None = none_left at (drop at s) (simp length-drop (omega arith)) in
       rw e (λ i m. absurd (omega arith))
 
   walk : (k at : ℕ) → length s ≤ at + 4 * k → Says s at (header_from at (words (drop at s)))
@@ -93,9 +91,9 @@ module _ (s : List ℕ) where
       rw (q, test_searched p a.magic.early) (to_test p a)
 
   -- what the search over the searched part says of the image
-  told : (r : Search) → Says (take search_limit s) 0 r → Answers (HeaderAt s) r
-  told Nothing h = λ p a. false≢true (sym (h (p / 4) (simp length-take (omega (arith, a.magic.multiple, a.magic.whole, a.magic.early)))) ∙ placed p a)
-  told (At o) h =
+  told : (r : Option ImageOffset) → Says (take search_limit s) 0 r → Answers (HeaderAt s) r
+  told None h = λ p a. false≢true (sym (h (p / 4) (simp length-take (omega (arith, a.magic.multiple, a.magic.whole, a.magic.early)))) ∙ placed p a)
+  told (Some o) h =
       let e : o.0 ≡ 0 + 4 * h.0 = h.1 in
       let l : o.0 + short_header ≤ min search_limit (length s) = simp length-take at h.2 in
       let t : test s o.0 ≡ true = sym (test_searched o.0 (omega arith)) ∙ h.3 in (
@@ -109,17 +107,17 @@ module _ (s : List ℕ) where
   answers = told (header_from 0 (words (take search_limit s))) (walk (take search_limit s) (length s) 0 (simp length-take (omega arith)))
 
 -- a header that was found is the lowest
-pub header_lowest : (s : List ℕ) (o : ImageOffset) → header s ≡ At o → HeaderAt s o.0 × ((p : ℕ) → p < o.0 → HeaderAt s p → ⊥)
+pub header_lowest : (s : List ℕ) (o : ImageOffset) → header s ≡ Some o → HeaderAt s o.0 × ((p : ℕ) → p < o.0 → HeaderAt s p → ⊥)
 header_lowest s o e = subst (Answers (HeaderAt s)) e (answers s)
 
 -- nothing is found only where there is no header
-pub header_none : (s : List ℕ) → header s ≡ Nothing → (o : ℕ) → HeaderAt s o → ⊥
+pub header_none : (s : List ℕ) → header s ≡ None → (o : ℕ) → HeaderAt s o → ⊥
 header_none s e = subst (Answers (HeaderAt s)) e (answers s)
 
 -- the lowest header is found
-pub lowest_header : (s : List ℕ) (o : ℕ) → HeaderAt s o → ((p : ℕ) → p < o → HeaderAt s p → ⊥) → header s ≡ At (record { 0 = o })
-lowest_header s o a low = one_answer (HeaderAt s) (header s) (At (record { 0 = o })) (answers s) (a, low)
+pub lowest_header : (s : List ℕ) (o : ℕ) → HeaderAt s o → ((p : ℕ) → p < o → HeaderAt s p → ⊥) → header s ≡ Some (record { 0 = o })
+lowest_header s o a low = one_answer (HeaderAt s) (header s) (Some (record { 0 = o })) (answers s) (a, low)
 
 -- where there is no header nothing is found
-pub none_header : (s : List ℕ) → ((o : ℕ) → HeaderAt s o → ⊥) → header s ≡ Nothing
-none_header s none = one_answer (HeaderAt s) (header s) Nothing (answers s) none
+pub none_header : (s : List ℕ) → ((o : ℕ) → HeaderAt s o → ⊥) → header s ≡ None
+none_header s none = one_answer (HeaderAt s) (header s) None (answers s) none

@@ -5,12 +5,12 @@
 --     passed_few                    how many false headers there are at most
 --     passed_found, passed_all      what the search answers
 -- Assumes nothing.
+use Rattle.std.specs.Prelude.{Some, None}
 use Rattle.std.proofs.Common.{◌≡◌, ℕ, ◌+◌, ◌*◌, ◌/◌, ◌%◌, ◌<◌, ◌≤◌, true, false, eqb, List, [], ◌∷◌, length, drop, sym, refl, ap, ◌∙◌, arith, length-append, length-drop}
 use Rattle.laws.specs.Passing.{passing}
 use Rattle.laws.proofs.PassingLaws.{passing_taken, passing_left, passing_most, passing_past}
 use Rattle.laws.proofs.CheckLaws.{and_both, and_fails_left, and_fails_right}
 use Rattle.number.specs.Number.{number_at}
-use Rattle.header.specs.declared.Search.TheVariants.{At, Nothing}
 use Rattle.header.specs.declared.Searched.{Searched}
 use Rattle.header.specs.Header.{header_magic, search_limit, short_header, sum_is_zero, words, is_header, header_from, header}
 use Rattle.header.specs.FalseHeader.{is_false_header_at, is_false_place, false_headers, searched}
@@ -40,10 +40,10 @@ module _ {s : List ℕ} {at passed : ℕ} (p : Passed s at passed) (short : leng
   header_is = sym (whole_image s short) ∙ p.ahead
 
   -- too few bytes are left
-  pub passed_all : length s < at + short_header → ◌≡◌ {A = Searched} (record { header = Nothing; false_headers = passed }) (searched s)
+  pub passed_all : length s < at + short_header → ◌≡◌ {A = Searched} (record { header = None; false_headers = passed }) (searched s)
   unfolding false_headers
   passed_all l =
-      let e : header s ≡ Nothing = header_is ∙ none_left at (drop at s) (simp length-drop (omega (arith, p.inside))) in
+      let e : header s ≡ None = header_is ∙ none_left at (drop at s) (simp length-drop (omega (arith, p.inside))) in
       let f = passing_past (is_false_place s) (at / 4) 2048 (omega (arith, p.inside)) (λ k m. no_room s (4 * k) (omega (arith, p.multiple))) in
       rw (e, f, p.count)
 
@@ -78,8 +78,8 @@ module _ {s : List ℕ} {at passed : ℕ} (p : Passed s at passed) (short : leng
           next (passed + 1) (rw t (omega (arith, p.count, n))) (and_fails_right (eqb (number_at 4 s at) header_magic) _ w)
 
       -- a header stands here
-      pub passed_found : sum_is_zero (number_at 4 s at) (number_at 4 s (at + 4)) (number_at 4 s (at + 8)) ≡ true → ◌≡◌ {A = Searched} (record { header = At (record { 0 = at }); false_headers = passed }) (searched s)
+      pub passed_found : sum_is_zero (number_at 4 s at) (number_at 4 s (at + 4)) (number_at 4 s (at + 8)) ≡ true → ◌≡◌ {A = Searched} (record { header = Some (record { 0 = at }); false_headers = passed }) (searched s)
       unfolding false_headers is_header
       passed_found z =
-          let h : header s ≡ At (record { 0 = at }) = header_is ∙ found_at at s room (and_both _ _ e z) in
+          let h : header s ≡ Some (record { 0 = at }) = header_is ∙ found_at at s room (and_both _ _ e z) in
           rw (h, p.count)

@@ -6,11 +6,10 @@
 --     by_sum                            the sum of three words
 --     two_sums                          the sums of a header
 -- Assumes nothing.
-use Rattle.std.specs.Prelude.{◌≡◌, ℕ, ◌+◌, ◌*◌, ◌%◌, ◌^◌, ◌<◌, ◌≤◌, true, false, ◌⊎◌, ◌↔◌, List, [], ◌∷◌, length, drop, ◌==◌, refl}
+use Rattle.std.specs.Prelude.{◌≡◌, ℕ, ◌+◌, ◌*◌, ◌%◌, ◌^◌, ◌<◌, ◌≤◌, true, false, ◌⊎◌, ◌↔◌, List, [], ◌∷◌, length, drop, ◌==◌, refl, Some, None}
 use Rattle.std.proofs.Common.{ap, sym, ⊎_elim, inl, inr, arith, eqb-true, eq-eqb, length-drop, drop-drop, take_all}
 use Rattle.laws.proofs.TestLaws.{lt_or_le}
 use Rattle.number.specs.Number.{number, number_at}
-use Rattle.header.specs.declared.Search.TheVariants.{At, Nothing}
 use Rattle.header.specs.Header.{header_magic, search_limit, short_header, words, sum_is_zero, is_header, header_from, header}
 
 words_cons : (s : List ℕ) → 4 ≤ length s → words s ≡ number 4 s ∷ words (drop 4 s)
@@ -31,7 +30,7 @@ words_two s h =
 pub words_three : (s : List ℕ) → short_header ≤ length s → words s ≡ number 4 s ∷ number 4 (drop 4 s) ∷ number 4 (drop 8 s) ∷ words (drop 12 s)
 words_three s h = rw (words_cons s (omega arith)) (ap (λ (l : List ℕ). number 4 s ∷ l) (words_two s h))
 
-header_here : (at m f k : ℕ) (ws : List ℕ) → is_header m f k ≡ true → header_from at (m ∷ f ∷ k ∷ ws) ≡ At (record { 0 = at })
+header_here : (at m f k : ℕ) (ws : List ℕ) → is_header m f k ≡ true → header_from at (m ∷ f ∷ k ∷ ws) ≡ Some (record { 0 = at })
 unfolding header_from
 header_here at m f k ws e = rw e
 
@@ -40,7 +39,7 @@ unfolding header_from
 header_on at m f k ws e = rw e
 
 module _ (at : ℕ) (s : List ℕ) (h : short_header ≤ length s) where
-  found_here : is_header (number 4 s) (number 4 (drop 4 s)) (number 4 (drop 8 s)) ≡ true → header_from at (words s) ≡ At (record { 0 = at })
+  found_here : is_header (number 4 s) (number 4 (drop 4 s)) (number 4 (drop 8 s)) ≡ true → header_from at (words s) ≡ Some (record { 0 = at })
   found_here e = rw (words_three s h) (header_here at _ _ _ _ e)
 
   passed : is_header (number 4 s) (number 4 (drop 4 s)) (number 4 (drop 8 s)) ≡ false → header_from at (words s) ≡ header_from (at + 4) (words (drop 4 s))
@@ -48,7 +47,7 @@ module _ (at : ℕ) (s : List ℕ) (h : short_header ≤ length s) where
 
 module _ (at : ℕ) (s : List ℕ) (h : at + short_header ≤ length s) where
   -- a header at a place is found there
-  pub found_at : is_header (number_at 4 s at) (number_at 4 s (at + 4)) (number_at 4 s (at + 8)) ≡ true → header_from at (words (drop at s)) ≡ At (record { 0 = at })
+  pub found_at : is_header (number_at 4 s at) (number_at 4 s (at + 4)) (number_at 4 s (at + 8)) ≡ true → header_from at (words (drop at s)) ≡ Some (record { 0 = at })
   found_at e = found_here at (drop at s) (simp length-drop (omega arith)) (simp drop-drop e)
 
   -- a place with no header is passed
@@ -63,7 +62,7 @@ length_words (a ∷ b ∷ []) = omega arith
 length_words (a ∷ b ∷ c ∷ []) = omega arith
 length_words (a ∷ b ∷ c ∷ d ∷ s) = omega (arith, length_words s)
 
-too_few : (at : ℕ) (ws : List ℕ) → length ws < 3 → header_from at ws ≡ Nothing
+too_few : (at : ℕ) (ws : List ℕ) → length ws < 3 → header_from at ws ≡ None
 unfolding header_from
 too_few at [] h = refl
 too_few at (m ∷ []) h = refl
@@ -71,7 +70,7 @@ too_few at (m ∷ f ∷ []) h = refl
 too_few at (m ∷ f ∷ k ∷ ws) h = absurd (omega arith)
 
 -- fewer than 12 bytes hold no header
-pub none_left : (at : ℕ) (s : List ℕ) → length s < short_header → header_from at (words s) ≡ Nothing
+pub none_left : (at : ℕ) (s : List ℕ) → length s < short_header → header_from at (words s) ≡ None
 none_left at s h = too_few at (words s) (omega (arith, length_words s))
 
 -- an image that is no longer than the searched part is searched whole

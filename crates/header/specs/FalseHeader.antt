@@ -4,11 +4,10 @@
 --     searched                                               what the search answers: the header, and that count
 -- What a false header is in propositions stands in HeaderAt, and that so many are counted in FalseHeaderLaws.
 -- Assumes nothing.
-use Rattle.std.specs.Prelude.{ℕ, ◌+◌, ◌*◌, ◌/◌, Bool, not, ◌&&◌, List, length, ◌==◌}
+use Rattle.std.specs.Prelude.{ℕ, ◌+◌, ◌*◌, ◌/◌, Bool, not, ◌&&◌, List, length, ◌==◌, Option, Some, None}
 use Rattle.laws.specs.Passing.{passing}
 use Rattle.number.specs.Number.{number_at}
-use Rattle.header.specs.declared.Search.{Search}
-use Rattle.header.specs.declared.Search.TheVariants.{At, Nothing}
+use Rattle.address.specs.declared.ImageOffset.{ImageOffset}
 use Rattle.header.specs.declared.Searched.{Searched}
 use Rattle.header.specs.Header.{header_magic, search_limit, has_room, sum_is_zero, header}
 
@@ -25,9 +24,9 @@ abbrev pub is_false_place : List ℕ → ℕ → Bool
 is_false_place image k = is_false_header_at image (4 * k)
 
 -- how many places lie below the header found, or in the searched part where there is none
-abbrev pub places_passed : Search → ℕ
-places_passed Nothing = search_limit / 4
-places_passed (At o) = o.0 / 4
+abbrev pub places_passed : Option ImageOffset → ℕ
+places_passed None = search_limit / 4
+places_passed (Some o) = o.0 / 4
 
 -- how many of them have a false header
 unfoldable pub false_headers : List ℕ → ℕ

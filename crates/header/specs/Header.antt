@@ -6,10 +6,9 @@
 -- What a header is in propositions stands in HeaderAt, and that the search finds the lowest in HeaderLaws; how many false
 -- headers it passes over stands in FalseHeader.
 -- Assumes nothing.
-use Rattle.std.specs.Prelude.{ℕ, ◌+◌, ◌%◌, ◌^◌, Bool, cond, ◌&&◌, List, [], ◌∷◌, length, take, ◌==◌, nat_le}
+use Rattle.std.specs.Prelude.{ℕ, ◌+◌, ◌%◌, ◌^◌, Bool, cond, ◌&&◌, List, [], ◌∷◌, length, take, ◌==◌, nat_le, Option, Some, None}
 use Rattle.number.specs.Number.{number}
-use Rattle.header.specs.declared.Search.{Search}
-use Rattle.header.specs.declared.Search.TheVariants.{At, Nothing}
+use Rattle.address.specs.declared.ImageOffset.{ImageOffset}
 
 -- a header begins with this number
 abbrev pub header_magic : ℕ
@@ -44,12 +43,12 @@ unfoldable pub is_header : ℕ → ℕ → ℕ → Bool
 is_header m flags checksum = m == header_magic && sum_is_zero m flags checksum
 
 -- the lowest of three words in a row that are a header's; the first word stands at the offset `at`
-unfoldable pub header_from : ℕ → List ℕ → Search
-header_from at [] = Nothing
-header_from at (m ∷ []) = Nothing
-header_from at (m ∷ f ∷ []) = Nothing
-header_from at (m ∷ f ∷ c ∷ ws) = let r = header_from (at + 4) (f ∷ c ∷ ws) in cond (is_header m f c) (At (record { 0 = at })) r
+unfoldable pub header_from : ℕ → List ℕ → Option ImageOffset
+header_from at [] = None
+header_from at (m ∷ []) = None
+header_from at (m ∷ f ∷ []) = None
+header_from at (m ∷ f ∷ c ∷ ws) = let r = header_from (at + 4) (f ∷ c ∷ ws) in cond (is_header m f c) (Some (record { 0 = at })) r
 
 -- the header of an image: the lowest in its searched part
-unfoldable pub header : List ℕ → Search
+unfoldable pub header : List ℕ → Option ImageOffset
 header image = header_from 0 (words (take search_limit image))

@@ -25,17 +25,10 @@ pub const FLAGS: usize = 4;
 
 pub const CHECKSUM: usize = 8;
 
-// What the search for a header finds.
-#[derive(Clone, Copy)]
-pub enum Search {
-    At(ImageOffset),
-    Nothing,
-}
-
-// What the search answers: the header, and how many false headers it passed over.
+// What the search answers: the header, if there is one, and how many false headers it passed over.
 #[derive(Clone, Copy)]
 pub struct Searched {
-    pub header: Search,
+    pub header: Option<ImageOffset>,
     pub false_headers: u32,
 }
 
@@ -69,7 +62,7 @@ fn first_header(s: &[u8]) -> Searched
     while SHORT_HEADER <= s.len() - at {
         if has_magic(s, at) {
             if sums_to_zero(s, at) {
-                let header = Search::At(ImageOffset(at));
+                let header = Some(ImageOffset(at));
                 return Searched {
                     header,
                     false_headers: passed,
@@ -80,7 +73,7 @@ fn first_header(s: &[u8]) -> Searched
         at += STEP;
     }
     Searched {
-        header: Search::Nothing,
+        header: None,
         false_headers: passed,
     }
 }

@@ -8,6 +8,7 @@
 --     load_inside, load_left           the load begins inside the image, and the checks on it are left
 --     length_fits, one_few             how long a load is at most, and that one segment is not too many
 -- Assumes nothing.
+use Rattle.std.specs.Prelude.{Option, Some, None}
 use mathlib.Core.Path.{◌≡◌, refl, sym, ◌∙◌}
 use mathlib.Core.Bool.{Bool, true, false, cond}
 use mathlib.Core.List.{List, ◌++◌}
@@ -22,8 +23,6 @@ use Rattle.answer.specs.Answer.{is_load, or_else}
 use Rattle.answer.specs.ChainLaws.{chain_append, or_else_first, or_else_second}
 use Rattle.answer.specs.declared.Refusal.{Refusal}
 use Rattle.answer.specs.declared.Refusal.TheVariants.{NoHeader, UnknownRequest, UndefinedBits, NoAddressFields, HeaderCutOff, LoadBeforeImage}
-use Rattle.header.specs.declared.Search.{Search}
-use Rattle.header.specs.declared.Search.TheVariants.{At, Nothing}
 use Rattle.header.specs.Header.{header}
 use Rattle.header.specs.FalseHeader.{false_headers}
 use Rattle.kernel.specs.declared.FoundHeader.{FoundHeader}
@@ -41,11 +40,11 @@ use Rattle.image.specs.LoadLaws.{offset_inside}
 use Rattle.image.specs.JudgedLaws.{header_refuses, front_refuses, kind_fields, kind_elf, kernel_fields, kernel_elf}
 
 -- what a choice between nothing and an offset was made by
-chosen_none : (t : Bool) (x : Search) (y : ImageOffset) → x ≡ cond t Nothing (At y) → x ≡ Nothing → t ≡ true
+chosen_none : (t : Bool) (x : Option ImageOffset) (y : ImageOffset) → x ≡ cond t None (Some y) → x ≡ None → t ≡ true
 chosen_none true x y e f = refl
 chosen_none false x y e f = let z : ◌≡◌ {A = ℕ} 0 1 = cc in absurd (omega arith)
 
-chosen_one : (t : Bool) (x : Search) (y z : ImageOffset) → x ≡ cond t Nothing (At y) → x ≡ At z → (t ≡ false) × (z.0 ≡ y.0)
+chosen_one : (t : Bool) (x : Option ImageOffset) (y z : ImageOffset) → x ≡ cond t None (Some y) → x ≡ Some z → (t ≡ false) × (z.0 ≡ y.0)
 chosen_one true x y z e f = let q : ◌≡◌ {A = ℕ} 0 1 = cc in absurd (omega arith)
 chosen_one false x y z e f = (refl, cc)
 
@@ -62,13 +61,13 @@ header_refused a image e f =
     image_chain image ∙ rw (← f, or_else_first a (first_of (kind_checks image) Load) e) (or_else_first a (first_of (entry_checks (kernel_of image)) Load) e) in
     rw (r, e)
 
-pub no_header : (image : List ℕ) (n : ℕ) → header image ≡ Nothing → n ≡ false_headers image → refused (NoHeader n) ≡ judged image
+pub no_header : (image : List ℕ) (n : ℕ) → header image ≡ None → n ≡ false_headers image → refused (NoHeader n) ≡ judged image
 unfolding header_checks
 no_header image n e c = header_refused (NoHeader n) image refl (rw (e, c) (search chain depth 20))
 
 -- a header was found, and its flags were read
 pub record FlagsFound (image : List ℕ) (at : ImageOffset) (flags : ℕ) : Type 0 where
-  pub found : header image ≡ At at
+  pub found : header image ≡ Some at
   pub read : flags ≡ flags_at image at.0
 
 module _ {image : List ℕ} {at : ImageOffset} {flags : ℕ} (r : FlagsFound image at flags) where
@@ -120,29 +119,29 @@ field_refused : (a : Answer) (image : List ℕ) → is_load a ≡ false → a �
 unfolding with_kernel
 field_refused a image e f = rw (← f, or_else_first a (first_of (entry_checks (fields_kernel image)) Load) e, e)
 
-pub cut_off_lem : (image : List ℕ) (at : ImageOffset) → header image ≡ At at → cut_off at.0 (length image) ≡ true → refused HeaderCutOff ≡ with_entry (first_of (field_checks image) Load) (fields_kernel image)
+pub cut_off_lem : (image : List ℕ) (at : ImageOffset) → header image ≡ Some at → cut_off at.0 (length image) ≡ true → refused HeaderCutOff ≡ with_entry (first_of (field_checks image) Load) (fields_kernel image)
 unfolding field_checks
 cut_off_lem image at found t = field_refused HeaderCutOff image refl (rw found (search chain depth 20))
 
 -- the address fields h of the header found stand in the image and were read
 pub record WholeHeader (image : List ℕ) (at : ImageOffset) (h : AddressFields) : Type 0 where
-  pub found : header image ≡ At at
+  pub found : header image ≡ Some at
   pub whole : cut_off at.0 (length image) ≡ false
   pub read : h ≡ fields_at image at.0
 
-module _ {image : List ℕ} {at : ImageOffset} {h : AddressFields} (w : WholeHeader image at h) (r : Search) (offset : r ≡ cond (before_image h at.0) Nothing (At (record { 0 = load_offset h at.0 }))) where
-  pub before_image_lem : r ≡ Nothing → refused LoadBeforeImage ≡ with_entry (first_of (field_checks image) Load) (fields_kernel image)
+module _ {image : List ℕ} {at : ImageOffset} {h : AddressFields} (w : WholeHeader image at h) (r : Option ImageOffset) (offset : r ≡ cond (before_image h at.0) None (Some (record { 0 = load_offset h at.0 }))) where
+  pub before_image_lem : r ≡ None → refused LoadBeforeImage ≡ with_entry (first_of (field_checks image) Load) (fields_kernel image)
   unfolding field_checks
   before_image_lem none =
       let t : before_image h at.0 ≡ true = chosen_none _ r _ offset none in
       field_refused LoadBeforeImage image refl (rw (w.found, ← w.read) (search chain depth 20))
 
-  pub load_inside : (o : ImageOffset) → r ≡ At o → o.0 < length image
+  pub load_inside : (o : ImageOffset) → r ≡ Some o → o.0 < length image
   load_inside o one =
       let q = chosen_one (before_image h at.0) r (record { 0 = load_offset h at.0 }) o offset one in
       omega (arith, q.1, offset_inside h at.0 (length image) w.whole)
 
-  pub load_left : (o : ImageOffset) (found : FoundHeader) → r ≡ At o → found ≡ found_header image
+  pub load_left : (o : ImageOffset) (found : FoundHeader) → r ≡ Some o → found ≡ found_header image
       → with_entry (first_of (load_checks h o.0 (load_length h o.0 (length image)) (length image)) Load) (kernel_for h found o.0 (load_length h o.0 (length image))) ≡ with_entry (first_of (field_checks image) Load) (fields_kernel image)
   unfolding field_checks fields_kernel
   load_left o found one p =

@@ -12,12 +12,11 @@
 --                                            the checks on the header, and on address fields or ELF
 --     image_checks    all of them, in order
 -- Assumes nothing.
-use Rattle.std.specs.Prelude.{Bool, true, false, cond, not, ◌&&◌, ◌||◌, List, [], ◌∷◌, ◌++◌, ℕ, ◌+◌, ◌-◌, ◌/◌, ◌%◌, ◌^◌, eqb, ltb, length}
+use Rattle.std.specs.Prelude.{Bool, true, false, cond, not, ◌&&◌, ◌||◌, List, [], ◌∷◌, ◌++◌, ℕ, ◌+◌, ◌-◌, ◌/◌, ◌%◌, ◌^◌, eqb, ltb, length, Option, Some, None}
 use Rattle.laws.specs.Checks.{Check, only_if, ◌gives◌}
 use Rattle.answer.specs.declared.Refusal.{Refusal}
 use Rattle.answer.specs.declared.Refusal.TheVariants.{NoHeader, UnknownRequest, UndefinedBits, NoAddressFields, HeaderCutOff, LoadBeforeImage, LoadPastImage, BssBelowLoadEnd}
-use Rattle.header.specs.declared.Search.{Search}
-use Rattle.header.specs.declared.Search.TheVariants.{At, Nothing}
+use Rattle.address.specs.declared.ImageOffset.{ImageOffset}
 use Rattle.header.specs.Header.{search_limit, header}
 use Rattle.header.specs.FalseHeader.{false_headers}
 use Rattle.kernel.specs.declared.Segment.{Segment}
@@ -32,14 +31,14 @@ use Rattle.image.specs.declared.load.AddressFields.{AddressFields}
 use Rattle.image.specs.Load.{flags_at, fields_at, on_pages, full_header, load_offset, load_length, load_end, extent_end}
 
 -- 6: no header
-abbrev pub no_header : Search → Bool
-no_header Nothing = true
-no_header (At o) = false
+abbrev pub no_header : Option ImageOffset → Bool
+no_header None = true
+no_header (Some o) = false
 
 -- 0 where there is no header
-abbrev pub offset_of : Search → ℕ
-offset_of Nothing = 0
-offset_of (At o) = o.0
+abbrev pub offset_of : Option ImageOffset → ℕ
+offset_of None = 0
+offset_of (Some o) = o.0
 
 -- 7: any of header flag bits 2 to 15 set
 abbrev pub unknown_request : ℕ → Bool

@@ -9,7 +9,7 @@
 --     GoodKernel, good_kernel                             where its header, its segments and its entry lie
 --     announced, calculated, listed                       its header and addresses, by the numbers in the image
 -- Assumes nothing.
-use Rattle.std.specs.Prelude.{◌≡◌, false, not, ◌&&◌, ◌↔◌, ◌⊎◌, List, [], ◌∷◌, ◌++◌, ℕ, ◌+◌, ◌-◌, ◌/◌, ◌%◌, ◌^◌, ◌≤◌, ◌<◌, eqb, ltb, length}
+use Rattle.std.specs.Prelude.{◌≡◌, false, not, ◌&&◌, ◌↔◌, ◌⊎◌, List, [], ◌∷◌, ◌++◌, ℕ, ◌+◌, ◌-◌, ◌/◌, ◌%◌, ◌^◌, ◌≤◌, ◌<◌, eqb, ltb, length, Option, Some, None}
 use Rattle.std.proofs.Math.Path.{refl}
 use Rattle.std.proofs.Common.{ap, sym, subst, ◌∙◌, ⊎_elim, inl, inr, ltb-false, eq-eqb, ne_eqb}
 use Rattle.std.proofs.Math.Bool.{true}
@@ -23,8 +23,7 @@ use Rattle.address.specs.Span.{Holds}
 use Rattle.answer.specs.Answer.{is_load}
 use Rattle.answer.specs.ChainLaws.{refuses, refuses_append, chain_append, check_passed, or_else_load, load_is}
 use Rattle.answer.specs.declared.Refusal.TheVariants.{NoHeader, HeaderCutOff, LoadBeforeImage, LoadPastImage, EntryOutsideLoad}
-use Rattle.header.specs.declared.Search.{Search}
-use Rattle.header.specs.declared.Search.TheVariants.{At, Nothing}
+use Rattle.address.specs.declared.ImageOffset.{ImageOffset}
 use Rattle.header.specs.Header.{header_magic, search_limit, short_header, header}
 use Rattle.header.specs.FalseHeader.{false_headers}
 use Rattle.header.proofs.HeaderLaws.{header_lowest}
@@ -106,9 +105,9 @@ module _ (image : List ℕ) where
     kernel_elf = rw a
 
 -- the conditions of the checks, where they do not hold
-there : (r : Search) → no_header r ≡ false → r ≡ At (record { 0 = offset_of r })
-there Nothing e = absurd (false≢true (sym e))
-there (At o) e = refl
+there : (r : Option ImageOffset) → no_header r ≡ false → r ≡ Some (record { 0 = offset_of r })
+there None e = absurd (false≢true (sym e))
+there (Some o) e = refl
 
 not_before : (h : AddressFields) (o : ℕ) → before_image h o ≡ false → (h.load_addr.0 ≤ h.header_addr.0) × (h.header_addr.0 - h.load_addr.0 ≤ o)
 not_before h o e =
@@ -167,7 +166,7 @@ fields_passed image e =
 -- what is known of the kernel of an image that no check refuses
 pub record GoodKernel (image : List ℕ) (k : Kernel) : Type 0 where
   -- the header is the one that the search finds
-  pub found : header image ≡ At k.header
+  pub found : header image ≡ Some k.header
   pub counted : k.false_headers ≡ false_headers image
   pub early : k.header.0 + short_header ≤ search_limit
   pub pages : k.pages ≡ on_pages (flags_at image k.header.0)
@@ -300,7 +299,7 @@ module _ (image : List ℕ) (e : first_of (image_checks image) Load ≡ Load) wh
 
   -- the flags that choose the kind are those of the header
   kind_is : header_flags image ≡ flags_at image (kernel_of image).header.0
-  kind_is = ap (λ (r : Search). flags_at image (offset_of r)) good_kernel.found
+  kind_is = ap (λ (r : Option ImageOffset). flags_at image (offset_of r)) good_kernel.found
 
   pub calculated : number_at 4 image ((kernel_of image).header.0 + 4) / 2 ^ 16 % 2 ≡ 1 → Calculated image (kernel_of image)
   calculated b =

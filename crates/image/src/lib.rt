@@ -1,7 +1,7 @@
 // A Multiboot image: its header, and the kernel that it asks for by address fields or as an ELF image.
 #![tactic(auto)]
 
-ghost use Rattle.std.specs.Prelude.{◌≡◌, ◌^◌, ◌<◌};
+ghost use Rattle.std.specs.Prelude.{◌≡◌, ◌^◌, ◌<◌, Some};
 ghost use Rattle.laws.specs.Checks.{first_of};
 ghost use Rattle.header.specs.Header.{header};
 ghost use Rattle.header.specs.FalseHeader.{false_headers};
@@ -13,7 +13,7 @@ ghost use Rattle.image.specs.Judge.{judged};
 
 use address::ImageOffset;
 use answer::Answer;
-use header::{FLAGS, Search};
+use header::FLAGS;
 use kernel::{FoundHeader, Judged, Kernel, MAX_SEGMENTS, Segment};
 use load::AddressFields;
 
@@ -26,17 +26,15 @@ pub fn judge(image: &[u8]) -> Judged
     ensures { result ≡ judged image.now }
 {
     let searched = header::find_header(image);
-    let passed = searched.false_headers;
-    let header = searched.header;
-    match header {
-        Search::Nothing => kernel::refused(Answer::NoHeader(passed)),
-        Search::At(at) => judge_header(image, at, passed),
-    }
+    let Some(at) = searched.header else {
+        return kernel::refused(Answer::NoHeader(searched.false_headers));
+    };
+    judge_header(image, at, searched.false_headers)
 }
 
 // The answer for an image whose header was found behind so many false ones.
 fn judge_header(image: &[u8], at: ImageOffset, passed: u32) -> Judged
-    requires { (header image.now ≡ Search.At at) × (passed ≡ false_headers image.now) }
+    requires { (header image.now ≡ Some at) × (passed ≡ false_headers image.now) }
     ensures { result ≡ judged image.now }
 {
     let flags = number::read_u32(image, at.0 + FLAGS);
@@ -54,7 +52,7 @@ fn judge_header(image: &[u8], at: ImageOffset, passed: u32) -> Judged
 
 // The answer of the checks on address fields or on an ELF image, as the flags say, and of the one on the entry.
 fn judge_kind(image: &[u8], at: ImageOffset, passed: u32, flags: u32) -> Judged
-    requires { (header image.now ≡ Search.At at) × (passed ≡ false_headers image.now) × (flags ≡ flags_at image.now at.0) }
+    requires { (header image.now ≡ Some at) × (passed ≡ false_headers image.now) × (flags ≡ flags_at image.now at.0) }
     ensures { result ≡ with_entry (first_of (kind_checks image.now) Answer.Load) (kernel_of image.now) }
 {
     let found = FoundHeader {
@@ -70,7 +68,7 @@ fn judge_kind(image: &[u8], at: ImageOffset, passed: u32, flags: u32) -> Judged
 
 // The answer of the checks on the address fields of the header found, and of the one on the entry.
 fn judge_fields(image: &[u8], found: FoundHeader) -> Judged
-    requires { (header image.now ≡ Search.At found.offset) × (found ≡ found_header image.now) }
+    requires { (header image.now ≡ Some found.offset) × (found ≡ found_header image.now) }
     ensures { result ≡ with_entry (first_of (field_checks image.now) Answer.Load) (fields_kernel image.now) }
 {
     let at = found.offset;
@@ -78,10 +76,10 @@ fn judge_fields(image: &[u8], found: FoundHeader) -> Judged
         return kernel::refused(Answer::HeaderCutOff);
     }
     let h = load::read_fields(image, at.0);
-    match load::load_offset(h, at) {
-        Search::Nothing => kernel::refused(Answer::LoadBeforeImage),
-        Search::At(offset) => judge_load(h, found, offset, image.len()),
-    }
+    let Some(offset) = load::load_offset(h, at) else {
+        return kernel::refused(Answer::LoadBeforeImage);
+    };
+    judge_load(h, found, offset, image.len())
 }
 
 // The answer for an image of n bytes whose load begins at the offset, once its header is accepted.

@@ -1,12 +1,11 @@
 // The load calculation: a header's address fields, and which bytes of the image go where.
-ghost use Rattle.std.specs.Prelude.{◌≡◌, cond, ◌+◌, ◌-◌, ◌^◌, ◌<◌, max};
+ghost use Rattle.std.specs.Prelude.{◌≡◌, cond, ◌+◌, ◌-◌, ◌^◌, ◌<◌, max, Some, None};
 ghost use Rattle.number.specs.Number.{number_at};
 ghost use Rattle.image.specs.Load.{on_pages, fields_at, full_header, load_offset, load_length, load_end};
 ghost use Rattle.image.specs.Narrow.{Narrow};
 ghost use Rattle.image.specs.Judged.{before_image};
 
 use address::{ImageOffset, PhysAddr};
-use header::Search;
 
 // A header with its address fields.
 pub(crate) const FULL_HEADER: usize = 32;
@@ -57,17 +56,11 @@ pub(crate) fn read_fields(image: &[u8], at: usize) -> AddressFields
 
 // The load offset: as far before the header as load_addr is below header_addr, or nothing where that is before the image.
 // No other function goes between addresses and offsets.
-pub(crate) fn load_offset(h: AddressFields, header: ImageOffset) -> Search
-    ensures { result ≡ cond (before_image h header.0) Search.Nothing (Search.At (record { 0 = load_offset h header.0 })) }
+pub(crate) fn load_offset(h: AddressFields, header: ImageOffset) -> Option<ImageOffset>
+    ensures { result ≡ cond (before_image h header.0) None (Some (record { 0 = load_offset h header.0 })) }
 {
-    if h.header_addr.0 < h.load_addr.0 {
-        return Search::Nothing;
-    }
-    let back = (h.header_addr.0 - h.load_addr.0) as usize;
-    if header.0 < back {
-        return Search::Nothing;
-    }
-    Search::At(ImageOffset(header.0 - back))
+    let back = h.header_addr.0.checked_sub(h.load_addr.0)?;
+    header.0.checked_sub(back as usize).map(ImageOffset)
 }
 
 // How many of the image's n bytes are loaded, from an offset inside it.

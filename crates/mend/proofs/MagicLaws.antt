@@ -5,7 +5,7 @@
 --     magic_found, magic_none             its answer from what is known of all places
 --     magic_part                          what stands behind the searched part has no share in the answer
 -- Assumes nothing.
-use Rattle.std.specs.Prelude.{◌≡◌, ℕ, ◌+◌, ◌*◌, ◌/◌, ◌%◌, ◌<◌, ◌≤◌, min, Bool, true, false, ◌↔◌, List, length, take, ◌==◌}
+use Rattle.std.specs.Prelude.{◌≡◌, ℕ, ◌+◌, ◌*◌, ◌/◌, ◌%◌, ◌<◌, ◌≤◌, min, Bool, true, false, ◌↔◌, List, length, take, ◌==◌, Option, Some, None}
 use Rattle.std.proofs.Math.Path.{ap}
 use Rattle.std.proofs.Common.{sym, ◌∙◌, arith, length-take}
 use Rattle.std.proofs.lemmas.Bool.{false≢true}
@@ -14,8 +14,7 @@ use Rattle.laws.proofs.FirstLaws.{Lowest, first_at, first_none, first_lowest}
 use Rattle.laws.proofs.TestLaws.{eqb_is, and_is}
 use Rattle.laws.proofs.CheckLaws.{and_fails_left, and_fails_right}
 use Rattle.number.specs.Number.{number_at}
-use Rattle.header.specs.declared.Search.{Search}
-use Rattle.header.specs.declared.Search.TheVariants.{At, Nothing}
+use Rattle.address.specs.declared.ImageOffset.{ImageOffset}
 use Rattle.header.specs.Header.{header_magic, search_limit, short_header, has_room}
 use Rattle.header.specs.HeaderAt.{MagicAt}
 use Rattle.header.proofs.RoomLaws.{room_is}
@@ -70,14 +69,14 @@ module _ (image : List ℕ) where
   lowest_magic_lem = of_places (first (is_magic_place image) (search_limit / 4) 0) (first_lowest (is_magic_place image) (search_limit / 4) 0)
 
   -- the place k has the magic, and none before it
-  pub magic_found : (k : ℕ) → is_magic_place image k ≡ true → ((j : ℕ) → j < k → is_magic_place image j ≡ false) → At (record { 0 = 4 * k }) ≡ lowest_magic image
+  pub magic_found : (k : ℕ) → is_magic_place image k ≡ true → ((j : ℕ) → j < k → is_magic_place image j ≡ false) → Some (record { 0 = 4 * k }) ≡ lowest_magic image
   unfolding lowest_magic
   magic_found k t h =
       let m = (magic_is image (4 * k) (omega arith)).0 t in
       ap place_offset (sym (first_at (is_magic_place image) (search_limit / 4) 0 k (omega arith) (omega (arith, m.early)) t (λ j l. h j)))
 
   -- no place has it
-  pub magic_none : ((j : ℕ) → is_magic_place image j ≡ false) → Nothing ≡ lowest_magic image
+  pub magic_none : ((j : ℕ) → is_magic_place image j ≡ false) → None ≡ lowest_magic image
   unfolding lowest_magic
   magic_none h = ap place_offset (sym (first_none (is_magic_place image) (search_limit / 4) 0 (λ j l m. h j)))
 
@@ -94,9 +93,9 @@ module _ (image : List ℕ) where
       let l : o + short_header ≤ min search_limit (length image) = simp length-take at m.whole in
       magic_kept (omega arith) (sym (word_take search_limit image o (omega (arith, m.early)))) m
 
-  same_answer : (r : Search) → Answers (MagicAt part) r → Answers (MagicAt image) r
-  same_answer Nothing h = λ o m. h o (to_part o m)
-  same_answer (At o) h = (of_part o.0 h.0, λ p l m. h.1 p l (to_part p m))
+  same_answer : (r : Option ImageOffset) → Answers (MagicAt part) r → Answers (MagicAt image) r
+  same_answer None h = λ o m. h o (to_part o m)
+  same_answer (Some o) h = (of_part o.0 h.0, λ p l m. h.1 p l (to_part p m))
 
   pub magic_part : lowest_magic part ≡ lowest_magic image
   magic_part = one_answer (MagicAt image) (lowest_magic part) (lowest_magic image) (same_answer (lowest_magic part) (lowest_magic_lem part)) (lowest_magic_lem image)

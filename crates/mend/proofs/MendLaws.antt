@@ -5,7 +5,7 @@
 --     right_checksum_lem                the checksum is the one with which the sum is 0
 --     mended_at                         what is promised where a checksum is mended
 -- Assumes nothing.
-use Rattle.std.specs.Prelude.{◌≡◌, ℕ, ◌+◌, ◌^◌, ◌<◌, ◌≤◌, List, [], slice_index}
+use Rattle.std.specs.Prelude.{◌≡◌, ℕ, ◌+◌, ◌^◌, ◌<◌, ◌≤◌, List, [], slice_index, Some, None}
 use Rattle.std.proofs.Math.Path.{refl, ap}
 use Rattle.std.proofs.Common.{sym, ◌∙◌, subst, append-nil, arith}
 use Rattle.buffer.specs.Patched.{patched}
@@ -14,7 +14,6 @@ use Rattle.buffer.specs.WritesLaws.{patched_outside}
 use Rattle.number.specs.Number.{number_at, number_bytes}
 use Rattle.number.specs.NumberLaws.{length-number_bytes, number_written, number_at_before, number_at_inside}
 use Rattle.address.specs.declared.ImageOffset.{ImageOffset}
-use Rattle.header.specs.declared.Search.TheVariants.{At, Nothing}
 use Rattle.header.specs.Header.{header}
 use Rattle.header.specs.HeaderAt.{MagicAt, HeaderAt}
 use Rattle.header.proofs.SearchLaws.{Answers}
@@ -25,19 +24,19 @@ use Rattle.mend.proofs.MagicLaws.{magic_kept, lowest_magic_lem}
 use Rattle.mend.specs.Promises.{RightChecksum, MendedAt}
 
 module _ (image : List ℕ) where
-  pub magic_early : (o : ImageOffset) → lowest_magic image ≡ At o → o.0 + 12 ≤ 8192
+  pub magic_early : (o : ImageOffset) → lowest_magic image ≡ Some o → o.0 + 12 ≤ 8192
   magic_early o e = (subst (Answers (MagicAt image)) e (lowest_magic_lem image)).0.early
 
-  pub with_header : (o : ImageOffset) → header image ≡ At o → mending_of image ≡ HeaderFound
+  pub with_header : (o : ImageOffset) → header image ≡ Some o → mending_of image ≡ HeaderFound
   unfolding mending_of
   with_header o e = rw e refl
 
-  module _ (headless : header image ≡ Nothing) where
-    pub at_magic : (o : ImageOffset) → lowest_magic image ≡ At o → mending_of image ≡ Mended (change_at image o)
+  module _ (headless : header image ≡ None) where
+    pub at_magic : (o : ImageOffset) → lowest_magic image ≡ Some o → mending_of image ≡ Mended (change_at image o)
     unfolding mending_of
     at_magic o e = rw (headless, e) refl
 
-    pub nowhere : lowest_magic image ≡ Nothing → mending_of image ≡ NoMagic
+    pub nowhere : lowest_magic image ≡ None → mending_of image ≡ NoMagic
     unfolding mending_of
     nowhere e = rw (headless, e) refl
 
@@ -79,7 +78,7 @@ module _ (image : List ℕ) (o k : ℕ) (m : MagicAt image o) where
   magic_before p l a = magic_kept (omega (arith, length-patched image (o + 8) (number_bytes 4 k), a.whole)) (sym (before p (omega arith))) a
 
 -- the lowest magic of an image without a header is mended
-pub mended_at : (image : List ℕ) (o : ImageOffset) → Answers (HeaderAt image) Nothing → Answers (MagicAt image) (At o)
+pub mended_at : (image : List ℕ) (o : ImageOffset) → Answers (HeaderAt image) None → Answers (MagicAt image) (Some o)
     → MendedAt image (change_at image o) (patched image (o.0 + 8) (number_bytes 4 (change_at image o).new))
 mended_at image o none a =
     let k = (change_at image o).new in

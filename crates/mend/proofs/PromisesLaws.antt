@@ -5,12 +5,11 @@
 --     second_found, second_kept    a second run finds a header, where the first did not refuse, and changes nothing
 --     mend_part, image_part_lem    the searched part alone gives the same answer and gets the same bytes
 -- Assumes nothing.
-use Rattle.std.specs.Prelude.{◌≡◌, ℕ, ◌+◌, ◌≤◌, List, take, ◌≢◌, refl}
+use Rattle.std.specs.Prelude.{◌≡◌, ℕ, ◌+◌, ◌≤◌, List, take, ◌≢◌, refl, Option, Some, None}
 use Rattle.std.proofs.Common.{sym, ap, ◌∙◌, subst, arith}
 use Rattle.buffer.specs.PatchedLaws.{take-patched}
 use Rattle.number.specs.Number.{number_bytes}
-use Rattle.header.specs.declared.Search.{Search}
-use Rattle.header.specs.declared.Search.TheVariants.{At, Nothing}
+use Rattle.address.specs.declared.ImageOffset.{ImageOffset}
 use Rattle.header.specs.Header.{search_limit, header}
 use Rattle.header.specs.HeaderAt.{MagicAt, HeaderAt}
 use Rattle.header.proofs.SearchLaws.{Answers}
@@ -37,16 +36,16 @@ change_in d (Mended c) = c
 change_in d NoMagic = d
 
 module _ (image : List ℕ) where
-  promised_by : (r s : Search) → Answers (HeaderAt image) r → Answers (MagicAt image) s
+  promised_by : (r s : Option ImageOffset) → Answers (HeaderAt image) r → Answers (MagicAt image) s
       → MendPromised image (mending_by image r s) (image_with image (mending_by image r s))
-  promised_by (At o) s h g =
+  promised_by (Some o) s h g =
       record {
         found = (λ e. (o.0, h.0), λ k. refl);
         none = (λ e. absurd (omega (arith, ap tag e)), λ n. absurd (n o.0 h.0.magic));
         mended = λ c e. absurd (omega (arith, ap tag e));
         left = λ n. refl;
       }
-  promised_by Nothing (At o) h g =
+  promised_by None (Some o) h g =
       let v = image_with image (Mended (change_at image o)) in
       record {
         found = (λ e. absurd (omega (arith, ap tag e)), λ k. absurd (h k.0 k.1));
@@ -54,7 +53,7 @@ module _ (image : List ℕ) where
         mended = λ c e. subst (λ (d : Change). MendedAt image d v) (ap (change_in c) e) (mended_at image o h g);
         left = λ n. absurd (n (change_at image o) refl);
       }
-  promised_by Nothing Nothing h g =
+  promised_by None None h g =
       record {
         found = (λ e. absurd (omega (arith, ap tag e)), λ k. absurd (h k.0 k.1));
         none = (λ e. g, λ n. refl);
@@ -69,7 +68,7 @@ module _ (image : List ℕ) where
   pub change_early : (c : Change) → mending_of image ≡ Mended c → c.offset.0 + 12 ≤ 8192
   change_early c e = (mend_promised.mended c e).magic.early
 
-  pub mended_header : (c : Change) → mending_of image ≡ Mended c → header (image_after image) ≡ At c.offset
+  pub mended_header : (c : Change) → mending_of image ≡ Mended c → header (image_after image) ≡ Some c.offset
   mended_header c e =
       let m = mend_promised.mended c e in
       lowest_header (image_after image) c.offset.0 m.header (λ o l h. m.first o l h.magic)
@@ -97,10 +96,10 @@ module _ (image : List ℕ) where
   abbrev part : List ℕ
   part = take search_limit image
 
-  same_by : (r s : Search) → Answers (MagicAt image) s → mending_by part r s ≡ mending_by image r s
-  same_by (At o) s g = refl
-  same_by Nothing Nothing g = refl
-  same_by Nothing (At o) g =
+  same_by : (r s : Option ImageOffset) → Answers (MagicAt image) s → mending_by part r s ≡ mending_by image r s
+  same_by (Some o) s g = refl
+  same_by None None g = refl
+  same_by None (Some o) g =
       let l = g.0.early in
       rw (word_take search_limit image (o.0 + 4) (omega arith), word_take search_limit image (o.0 + 8) (omega arith)) refl
 

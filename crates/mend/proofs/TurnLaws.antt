@@ -3,10 +3,10 @@
 --     tried_start, tried_on     before the first turn, and past a place without the magic
 --     tried_found, tried_all    what the search answers
 -- Assumes nothing.
+use Rattle.std.specs.Prelude.{Some, None}
 use Rattle.std.proofs.Common.{◌≡◌, ℕ, ◌+◌, ◌*◌, ◌/◌, ◌%◌, ◌<◌, ◌≤◌, min, true, false, eqb, List, length, refl, ap, ◌∙◌, ⊎_elim, arith, eqb-true}
 use Rattle.laws.proofs.TestLaws.{lt_or_le}
 use Rattle.number.specs.Number.{number_at}
-use Rattle.header.specs.declared.Search.TheVariants.{At, Nothing}
 use Rattle.header.specs.Header.{header_magic, search_limit, short_header}
 use Rattle.header.specs.HeaderAt.{MagicAt}
 use Rattle.header.proofs.RoomLaws.{past_end, past_limit}
@@ -35,16 +35,16 @@ module _ {image : List ℕ} {end at : ℕ} (t : Tried image end at) where
   tried_on l e = record { inside = omega arith; multiple = omega (arith, t.multiple); none = up_to (no_magic image at e) }
 
   module _ (is : end ≡ min (length image) search_limit) where
-    pub tried_found : at + short_header ≤ end → eqb (number_at 4 image at) header_magic ≡ true → At (record { 0 = at }) ≡ lowest_magic image
+    pub tried_found : at + short_header ≤ end → eqb (number_at 4 image at) header_magic ≡ true → Some (record { 0 = at }) ≡ lowest_magic image
     tried_found l e =
         let q : at ≡ 4 * (at / 4) = omega (arith, t.multiple) in
         let m : MagicAt image at = record { multiple = t.multiple; whole = omega arith; early = omega arith; marked = eqb-true _ _ e } in
         let here = (magic_is image at t.multiple).1 m in
-        ap (λ (o : ℕ). At (record { 0 = o })) q
+        ap (λ (o : ℕ). Some (record { 0 = o })) q
         ∙ magic_found image (at / 4) (rw (← q) here) (λ j m. t.none j (omega arith))
 
     -- too few bytes are left
-    pub tried_all : end < at + short_header → Nothing ≡ lowest_magic image
+    pub tried_all : end < at + short_header → None ≡ lowest_magic image
     tried_all l =
         magic_none image
         (λ j.

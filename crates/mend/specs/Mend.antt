@@ -5,13 +5,11 @@
 --     image_with, image_after                                    the image afterwards
 -- What all this promises of the bytes stands in Promises.
 -- Assumes nothing.
-use Rattle.std.specs.Prelude.{ℕ, ◌+◌, ◌-◌, ◌*◌, ◌/◌, ◌%◌, ◌^◌, Bool, ◌&&◌, List, ◌==◌}
+use Rattle.std.specs.Prelude.{ℕ, ◌+◌, ◌-◌, ◌*◌, ◌/◌, ◌%◌, ◌^◌, Bool, ◌&&◌, List, ◌==◌, Option, Some, None}
 use Rattle.laws.specs.First.{Found, none, at, first}
 use Rattle.buffer.specs.Patched.{patched}
 use Rattle.number.specs.Number.{number_at, number_bytes}
 use Rattle.address.specs.declared.ImageOffset.{ImageOffset}
-use Rattle.header.specs.declared.Search.{Search}
-use Rattle.header.specs.declared.Search.TheVariants.{At, Nothing}
 use Rattle.header.specs.Header.{header_magic, search_limit, has_room, header}
 use Rattle.mend.specs.declared.Change.{Change}
 use Rattle.mend.specs.declared.Mending.{Mending}
@@ -26,12 +24,12 @@ abbrev pub is_magic_place : List ℕ → ℕ → Bool
 is_magic_place image k = is_magic_at image (4 * k)
 
 -- the offset of a place, if there is one
-abbrev pub place_offset : Found → Search
-place_offset none = Nothing
-place_offset (at k) = At (record { 0 = 4 * k })
+abbrev pub place_offset : Found → Option ImageOffset
+place_offset none = None
+place_offset (at k) = Some (record { 0 = 4 * k })
 
 -- the lowest place of the searched part where the magic stands
-unfoldable pub lowest_magic : List ℕ → Search
+unfoldable pub lowest_magic : List ℕ → Option ImageOffset
 lowest_magic image = place_offset (first (is_magic_place image) (search_limit / 4) 0)
 
 -- the number below 2^32 with which magic and flags give 0 modulo 2^32; the outer remainder turns 2^32 into 0
@@ -43,10 +41,10 @@ abbrev pub change_at : List ℕ → ImageOffset → Change
 change_at image o = record { offset = o; old = number_at 4 image (o.0 + 8); new = right_checksum (number_at 4 image (o.0 + 4)) }
 
 -- what is answered by the header found and the lowest magic: a header is left alone
-abbrev pub mending_by : List ℕ → Search → Search → Mending
-mending_by image (At o) magic = HeaderFound
-mending_by image Nothing (At o) = Mended (change_at image o)
-mending_by image Nothing Nothing = NoMagic
+abbrev pub mending_by : List ℕ → Option ImageOffset → Option ImageOffset → Mending
+mending_by image (Some o) magic = HeaderFound
+mending_by image None (Some o) = Mended (change_at image o)
+mending_by image None None = NoMagic
 
 -- the answer for an image
 unfoldable pub mending_of : List ℕ → Mending

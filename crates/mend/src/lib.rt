@@ -6,7 +6,7 @@ ghost use Rattle.header.specs.Header.{short_header};
 ghost use Rattle.mend.specs.Mend.{lowest_magic, right_checksum, change_at, mending_of, image_after, mend_number};
 
 use address::ImageOffset;
-use header::{CHECKSUM, FLAGS, HEADER_MAGIC, SHORT_HEADER, STEP, Search};
+use header::{CHECKSUM, FLAGS, HEADER_MAGIC, SHORT_HEADER, STEP};
 
 // A checksum that is mended: the header's offset, and the word before and after.
 #[derive(Clone, Copy)]
@@ -58,32 +58,29 @@ pub fn number(mending: Mending) -> u32
 fn decide(image: &[u8]) -> Mending
     ensures { result ≡ mending_of image.now }
 {
-    let searched = header::find_header(image);
-    let header = searched.header;
-    if let Search::At(_) = header {
+    if header::find_header(image).header.is_some() {
         return Mending::HeaderFound;
     }
-    let magic = lowest_magic(image);
-    match magic {
-        Search::At(offset) => Mending::Mended(change_at(image, offset)),
-        Search::Nothing => Mending::NoMagic,
+    match lowest_magic(image) {
+        Some(offset) => Mending::Mended(change_at(image, offset)),
+        None => Mending::NoMagic,
     }
 }
 
 // The lowest multiple of 4 at which the magic stands, with room for 12 bytes inside the searched part.
 #[tactic(auto, using(crate::proofs::TurnLaws::tried_on, crate::proofs::TurnLaws::tried_found, crate::proofs::TurnLaws::tried_all))]
-fn lowest_magic(image: &[u8]) -> Search
+fn lowest_magic(image: &[u8]) -> Option<ImageOffset>
     ensures { result ≡ lowest_magic image.now }
 {
     let end = header::searched_end(image.len());
     let mut at = 0;
     while SHORT_HEADER <= end - at {
         if header::has_magic(image, at) {
-            return Search::At(ImageOffset(at));
+            return Some(ImageOffset(at));
         }
         at += STEP;
     }
-    Search::Nothing
+    None
 }
 
 // The checksum at the magic at an offset, as it stands and as it has to be.

@@ -5,7 +5,7 @@
 --     number_load, load_plan    the number 0 is a load, and gives its plan
 --     room_item, header_item    what the items of 16 and 6 are
 -- Assumes nothing.
-use Rattle.std.specs.Prelude.{◌≡◌, Bool, true, not, ◌&&◌, ◌||◌, List, ◌↔◌, ◌⊎◌, ltb}
+use Rattle.std.specs.Prelude.{◌≡◌, Bool, true, not, ◌&&◌, ◌||◌, List, ◌↔◌, ◌⊎◌, ltb, Option, Some, None}
 use Rattle.std.proofs.Math.Path.{refl, ap}
 use Rattle.std.proofs.Common.{sym, subst, ◌∙◌, ⊎_elim, eq-or-lt_of_le}
 use Rattle.std.proofs.Math.Bool.{false}
@@ -33,8 +33,7 @@ use Rattle.submission.specs.GoodSubmission.{NoZero, GoodSubmission}
 use Rattle.submission.specs.RuleLaws.{marked_is, submission_good_is}
 use Rattle.submission.specs.Format.{module_count}
 use Rattle.command_line.specs.CommandLine.{operator_checks}
-use Rattle.header.specs.declared.Search.{Search}
-use Rattle.header.specs.declared.Search.TheVariants.{At, Nothing}
+use Rattle.address.specs.declared.ImageOffset.{ImageOffset}
 use Rattle.header.specs.Header.{header}
 use Rattle.header.specs.HeaderAt.{HeaderAt}
 use Rattle.header.specs.FalseHeader.{false_headers}
@@ -101,13 +100,13 @@ from_on : (P : ℕ → Type 0) (a b : ℕ) → P a → ((k : ℕ) → suc a ≤ 
 from_on P a b p h k l m = ⊎_elim (λ (e : a ≡ k). subst P e p) (λ (u : a < k). h k u m) (eq-or-lt_of_le l)
 
 -- a search that found nothing
-of_search : (s : List ℕ) (r : Search) → header s ≡ r → (no_header (header s) ≡ true) ↔ ((o : ℕ) → HeaderAt s o → ⊥)
-of_search s Nothing e = (λ t. header_none s e, λ n. rw e refl)
-of_search s (At o) e = (λ t. absurd (false≢true (rw e at t)), λ n. rw (none_header s n) refl)
+of_search : (s : List ℕ) (r : Option ImageOffset) → header s ≡ r → (no_header (header s) ≡ true) ↔ ((o : ℕ) → HeaderAt s o → ⊥)
+of_search s None e = (λ t. header_none s e, λ n. rw e refl)
+of_search s (Some o) e = (λ t. absurd (false≢true (rw e at t)), λ n. rw (none_header s n) refl)
 
-found_nothing : (r : Search) → no_header r ≡ true → r ≡ Nothing
-found_nothing Nothing t = refl
-found_nothing (At o) t = absurd (false≢true t)
+found_nothing : (r : Option ImageOffset) → no_header r ≡ true → r ≡ None
+found_nothing None t = refl
+found_nothing (Some o) t = absurd (false≢true t)
 
 operator_is : (line : List ℕ) → ((ltb max_line (length line) || has_zero line) ≡ false) ↔ ((length line ≤ max_line) × NoZero line)
 operator_is line =
@@ -258,7 +257,7 @@ module _ (x : Lent) where
       )
 
   -- 6 has the count of false headers for its item, and no header was found
-  pub header_item : number_of (decision_of x).answer ≡ 6 → (item_of (decision_of x).answer ≡ false_headers (image_in x)) × (header (image_in x) ≡ Nothing)
+  pub header_item : number_of (decision_of x).answer ≡ 6 → (item_of (decision_of x).answer ≡ false_headers (image_in x)) × (header (image_in x) ≡ None)
   unfolding place_in answer_for applies_for only_if checks lent_checks submission_checks operator_checks window_checks map_checks header_checks load_checks field_checks kind_checks entry_checks elf_checks image_checks kernel_checks room_checks layout_of
   header_item e =
       let f = number_first (checks x) 6 numbered (omega arith) (ap number_of (sym decided_answer) ∙ e) in
