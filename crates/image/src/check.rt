@@ -35,20 +35,14 @@ pub(crate) fn no_addresses(flags: u32) -> bool
 pub(crate) fn unknown_kind(image: &[u8], flags: u32) -> bool
     ensures { result ≡ unknown_kind image.now flags }
 {
-    if !no_addresses(flags) {
-        return false;
-    }
-    !elf::is_elf(image)
+    no_addresses(flags) && !elf::is_elf(image)
 }
 
 // Whether the address fields of a header run past the searched part, or past the image of n bytes.
 pub(crate) fn cut_off(at: ImageOffset, n: usize) -> bool
     ensures { result ≡ cut_off at.0 n }
 {
-    if header::SEARCH_LIMIT - load::FULL_HEADER < at.0 {
-        return true;
-    }
-    n < at.0 + load::FULL_HEADER
+    header::SEARCH_LIMIT - load::FULL_HEADER < at.0 || n < at.0 + load::FULL_HEADER
 }
 
 // The first of checks 12 and 13 that refuses a load of `len` bytes from the offset, of an image of n bytes.
@@ -72,28 +66,19 @@ fn past_image(h: AddressFields, offset: ImageOffset, len: usize, n: usize) -> bo
     requires { offset.0 + len < 2 ^ 64 }
     ensures { result ≡ past_image h offset.0 len n }
 {
-    if ends_early(h) {
-        return true;
-    }
-    n < offset.0 + len
+    ends_early(h) || n < offset.0 + len
 }
 
 // Whether load_end_addr is given and below load_addr.
 fn ends_early(h: AddressFields) -> bool
     ensures { result ≡ not (eqb h.load_end_addr.0 0) && ltb h.load_end_addr.0 h.load_addr.0 }
 {
-    if h.load_end_addr.0 == 0 {
-        return false;
-    }
-    h.load_end_addr.0 < h.load_addr.0
+    h.load_end_addr.0 != 0 && h.load_end_addr.0 < h.load_addr.0
 }
 
 // Whether bss_end_addr is given and below the load end.
 fn bss_below(h: AddressFields, loaded: PhysAddr) -> bool
     ensures { result ≡ bss_below h loaded.0 }
 {
-    if h.bss_end_addr.0 == 0 {
-        return false;
-    }
-    h.bss_end_addr.0 < loaded.0
+    h.bss_end_addr.0 != 0 && h.bss_end_addr.0 < loaded.0
 }

@@ -88,9 +88,5 @@ pub(crate) fn load_end(h: AddressFields, len: usize) -> PhysAddr
 pub(crate) fn extent_end(h: AddressFields, loaded: PhysAddr) -> PhysAddr
     ensures { result ≡ record { 0 = max loaded.0 h.bss_end_addr.0 } }
 {
-    if loaded.0 < h.bss_end_addr.0 {
-        h.bss_end_addr
-    } else {
-        loaded
-    }
+    PhysAddr(loaded.0.max(h.bss_end_addr.0))
 }
