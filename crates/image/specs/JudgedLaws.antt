@@ -1,6 +1,5 @@
 -- What is known of an image that no check refuses, and of the kernel that it asks for.
---     judged_answer, judged_load                          the parts of the answer for an image
---     header-, kind-, front-, entry-, image_refuses       the checks on it refuse
+--     judged_load                                         the answer for an image that no check refuses
 --     high_sum                                            a header whose sum is 2^33
 --     kind_fields, kind_elf, kernel_fields, kernel_elf    which checks the flags choose, and which kernel
 --     ImagePassed, image_passed                           no check applies
@@ -9,19 +8,17 @@
 --     GoodKernel, good_kernel                             where its header, its segments and its entry lie
 --     announced, calculated, listed                       its header and addresses, by the numbers in the image
 -- Assumes nothing.
-use Rattle.std.specs.Prelude.{◌≡◌, false, not, ◌&&◌, ◌↔◌, ◌⊎◌, List, [], ◌∷◌, ◌++◌, ℕ, ◌+◌, ◌-◌, ◌/◌, ◌%◌, ◌^◌, ◌≤◌, ◌<◌, eqb, ltb, length, Option, Some, None}
+use Rattle.std.specs.Prelude.{◌≡◌, false, not, ◌&&◌, ◌↔◌, ◌⊎◌, List, [], ◌∷◌, ◌++◌, ℕ, ◌+◌, ◌-◌, ◌/◌, ◌%◌, ◌^◌, ◌≤◌, ◌<◌, eqb, ltb, length, Option, Some, None, Ok, is_ok}
 use Rattle.std.proofs.Math.Path.{refl}
 use Rattle.std.proofs.Common.{ap, sym, subst, ◌∙◌, ⊎_elim, inl, inr, ltb-false, eq-eqb, ne_eqb}
 use Rattle.std.proofs.Math.Bool.{true}
 use Rattle.std.proofs.lemmas.Bool.{false≢true, eqb-false, not-true}
 use native.Mathlib.Omega.{arith}
-use Rattle.laws.specs.Checks.{first_of, only_if}
-use Rattle.laws.proofs.CheckLaws.{only_true, only_false, only_behind, not_to_true, not_to_false}
+use Rattle.laws.specs.Checks.{first_of, only_if, passes}
+use Rattle.laws.proofs.CheckLaws.{passes_on, passes_both, check_passed, ok_is, only_true, only_false, only_behind, not_to_true, not_to_false}
 use Rattle.laws.proofs.TestLaws.{true_or_false, lt_or_le, or_none_left, or_none_right}
 use Rattle.number.specs.Number.{number_at}
 use Rattle.address.specs.Span.{Holds}
-use Rattle.answer.specs.Answer.{is_load}
-use Rattle.answer.specs.ChainLaws.{refuses, refuses_append, chain_append, check_passed, or_else_load, load_is}
 use Rattle.answer.specs.declared.Refusal.TheVariants.{NoHeader, HeaderCutOff, LoadBeforeImage, LoadPastImage, EntryOutsideLoad}
 use Rattle.address.specs.declared.ImageOffset.{ImageOffset}
 use Rattle.header.specs.Header.{header_magic, search_limit, short_header, header}
@@ -32,7 +29,6 @@ use Rattle.kernel.specs.Kernel.{max_segments, no_segment, kernel_with, segment_n
 use Rattle.kernel.specs.KernelLaws.{kernel_past, GoodSegment}
 use Rattle.kernel.specs.Checks.{entry_outside, entry_checks}
 use Rattle.kernel.specs.ChecksLaws.{entered, entry_outside_is, extents_apart}
-use Rattle.kernel.specs.Judge.{with_kernel}
 use Rattle.elf.specs.Segments.{elf_kernel}
 use Rattle.elf.specs.Checks.{elf_checks}
 use Rattle.elf.specs.Tabled.{Tabled}
@@ -46,34 +42,10 @@ use Rattle.image.specs.LoadLaws.{offset_inside}
 use Rattle.image.specs.Judge.{judged}
 use Rattle.image.specs.Calculated.{Announced, Calculated}
 
-module _ (image : List ℕ) where
-  pub judged_answer : (judged image).answer ≡ first_of (image_checks image) Load
-  unfolding judged with_kernel
-  judged_answer = refl
-
-  -- an accepted image comes with its kernel
-  pub judged_load : first_of (image_checks image) Load ≡ Load → (judged image).kernel ≡ kernel_of image
-  unfolding judged with_kernel
-  judged_load e = rw e
-
-  pub header_refuses : refuses (header_checks image) ≡ true
-  unfolding refuses header_checks
-  header_refuses = refl
-
-  pub kind_refuses : refuses (kind_checks image) ≡ true
-  unfolding refuses only_if load_checks field_checks kind_checks elf_checks
-  kind_refuses = refl
-
-  pub front_refuses : refuses (header_checks image ++ kind_checks image) ≡ true
-  front_refuses = refuses_append (header_checks image) (kind_checks image) header_refuses kind_refuses
-
-  pub entry_refuses : refuses (entry_checks (kernel_of image)) ≡ true
-  unfolding refuses entry_checks
-  entry_refuses = refl
-
-  pub image_refuses : refuses (image_checks image) ≡ true
-  unfolding image_checks
-  image_refuses = refuses_append (header_checks image ++ kind_checks image) (entry_checks (kernel_of image)) front_refuses entry_refuses
+-- an image that no check refuses gives its kernel
+pub judged_load : (image : List ℕ) → passes (image_checks image) ≡ true → judged image ≡ Ok (kernel_of image)
+unfolding judged
+judged_load image h = passes_on (image_checks image) (kernel_of image) h
 
 -- flags f and a checksum k that add up with the magic to 2^33: the search finds such a header, and 25 applies to it
 pub high_sum : (f k : ℕ) → f < 2 ^ 32 → k < 2 ^ 32 → header_magic + f + k ≡ 2 ^ 33 → undefined_bits f ≡ true
@@ -87,18 +59,24 @@ module _ (image : List ℕ) where
   elf_in = elf_kernel image (found_header image)
 
   module _ (a : is_addressed image ≡ true) where
-    pub kind_fields : first_of (kind_checks image) Load ≡ first_of (field_checks image) Load
+    pub kind_fields : {A : Type 0} (z : A) → first_of (kind_checks image) z ≡ first_of (field_checks image) z
     unfolding kind_checks
-    kind_fields = rw (a, only_true) (only_behind (field_checks image) (elf_checks image elf_in) Load)
+    kind_fields z = rw (a, only_true) (only_behind (field_checks image) (elf_checks image elf_in) z)
+
+    fields_pass : passes (kind_checks image) ≡ passes (field_checks image)
+    fields_pass = sym (ok_is (kind_checks image) (kernel_of image)) ∙ ap is_ok (kind_fields (kernel_of image)) ∙ ok_is (field_checks image) (kernel_of image)
 
     pub kernel_fields : kernel_of image ≡ fields_kernel image
     unfolding kernel_of
     kernel_fields = rw a
 
   module _ (a : is_addressed image ≡ false) where
-    pub kind_elf : first_of (kind_checks image) Load ≡ first_of (elf_checks image elf_in) Load
+    pub kind_elf : {A : Type 0} (z : A) → first_of (kind_checks image) z ≡ first_of (elf_checks image elf_in) z
     unfolding kind_checks
-    kind_elf = rw a (only_false (field_checks image) (only_if true (elf_checks image elf_in)) Load ∙ rw only_true)
+    kind_elf z = rw a (only_false (field_checks image) (only_if true (elf_checks image elf_in)) z ∙ rw only_true)
+
+    elf_pass : passes (kind_checks image) ≡ passes (elf_checks image elf_in)
+    elf_pass = sym (ok_is (kind_checks image) elf_in) ∙ ap is_ok (kind_elf elf_in) ∙ ok_is (elf_checks image elf_in) elf_in
 
     pub kernel_elf : kernel_of image ≡ elf_in
     unfolding kernel_of
@@ -134,18 +112,18 @@ odd f = (
 -- no check applies to the image
 pub record ImagePassed (image : List ℕ) : Type 0 where
   pub found : no_header (header image) ≡ false
-  pub kind : first_of (kind_checks image) Load ≡ Load
+  pub kind : passes (kind_checks image) ≡ true
   pub entered : entry_outside (kernel_of image) ≡ false
 
-pub image_passed : (image : List ℕ) → first_of (image_checks image) Load ≡ Load → ImagePassed image
+pub image_passed : (image : List ℕ) → passes (image_checks image) ≡ true → ImagePassed image
 unfolding image_checks header_checks entry_checks
 image_passed image e =
-    let a = or_else_load _ _ (ap is_load (sym (chain_append (header_checks image ++ kind_checks image) (entry_checks (kernel_of image)) (front_refuses image)) ∙ e)) in
-    let b = or_else_load _ _ (ap is_load (sym (chain_append (header_checks image) (kind_checks image) (header_refuses image))) ∙ a.0) in
+    let a = passes_both (header_checks image ++ kind_checks image) (entry_checks (kernel_of image)) e in
+    let b = passes_both (header_checks image) (kind_checks image) a.0 in
     record {
-      found = (check_passed (no_header (header image)) (NoHeader (false_headers image)) _ refl (load_is _ (header_refuses image) b.0)).0;
-      kind = load_is _ (kind_refuses image) b.1;
-      entered = (check_passed (entry_outside (kernel_of image)) EntryOutsideLoad [] refl (load_is _ (entry_refuses image) a.1)).0;
+      found = (check_passed (no_header (header image)) (NoHeader (false_headers image)) _ b.0).0;
+      kind = b.1;
+      entered = (check_passed (entry_outside (kernel_of image)) EntryOutsideLoad [] a.1).0;
     }
 
 -- no check on address fields applies
@@ -154,13 +132,13 @@ pub record FieldsPassed (image : List ℕ) : Type 0 where
   pub after : before_image (header_fields image) (header_offset image) ≡ false
   pub within : past_image (header_fields image) (first_loaded image) (count_loaded image) (length image) ≡ false
 
-pub fields_passed : (image : List ℕ) → first_of (field_checks image) Load ≡ Load → FieldsPassed image
+pub fields_passed : (image : List ℕ) → passes (field_checks image) ≡ true → FieldsPassed image
 unfolding field_checks load_checks
 fields_passed image e =
     let h = header_fields image in
-    let r9 = check_passed (cut_off (header_offset image) (length image)) HeaderCutOff _ refl e in
-    let r10 = check_passed (before_image h (header_offset image)) LoadBeforeImage _ refl r9.1 in
-    let r12 = check_passed (past_image h (first_loaded image) (count_loaded image) (length image)) LoadPastImage _ refl r10.1 in
+    let r9 = check_passed (cut_off (header_offset image) (length image)) HeaderCutOff _ e in
+    let r10 = check_passed (before_image h (header_offset image)) LoadBeforeImage _ r9.1 in
+    let r12 = check_passed (past_image h (first_loaded image) (count_loaded image) (length image)) LoadPastImage _ r10.1 in
     record { whole = r9.0; after = r10.0; within = r12.0 }
 
 -- what is known of the kernel of an image that no check refuses
@@ -207,11 +185,11 @@ pub elf_entry_is : (image : List ℕ) → is_addressed image ≡ false
     → (entry_outside (kernel_of image) ≡ true) ↔ ((i : ℕ) → SegmentAt image i → ((program_header_no image i).p_paddr.0 ≤ (elf_header image).e_entry.0) × ((elf_header image).e_entry.0 < (program_header_no image i).p_paddr.0 + (program_header_no image i).p_filesz) → ⊥)
 elf_entry_is image a = rw (kernel_elf image a) (entry_is image (found_header image))
 
-module _ (image : List ℕ) (e : first_of (image_checks image) Load ≡ Load) where
+module _ (image : List ℕ) (e : passes (image_checks image) ≡ true) where
   -- by address fields
   module _ (a : is_addressed image ≡ true) where
     by_fields : FieldsPassed image
-    by_fields = fields_passed image (sym (kind_fields image a) ∙ (image_passed image e).kind)
+    by_fields = fields_passed image (sym (fields_pass image a) ∙ (image_passed image e).kind)
 
     entry_in_lem : (i : ℕ) × (i < (fields_kernel image).count) × ((segment_no (fields_kernel image) i).start.0 ≤ (fields_kernel image).entry.0) × ((fields_kernel image).entry.0 < (segment_no (fields_kernel image) i).load_end.0)
     entry_in_lem = entered (fields_kernel image) (rw (kernel_fields image a) at (image_passed image e).entered)
@@ -270,7 +248,7 @@ module _ (image : List ℕ) (e : first_of (image_checks image) Load ≡ Load) wh
     unfolding elf_kernel kernel_with
     elf_good =
         let f = there (header image) (image_passed image e).found in
-        let p = elf_passed image (found_header image) (sym (kind_elf image a) ∙ (image_passed image e).kind) in
+        let p = elf_passed image (found_header image) (sym (elf_pass image a) ∙ (image_passed image e).kind) in
         let t = tabled image (found_header image) in
         record {
           found = f;

@@ -7,7 +7,7 @@ ghost use Rattle.image.specs.Judged.{unknown_request, undefined_bits, no_address
 use crate::load;
 use crate::load::AddressFields;
 use address::{ImageOffset, PhysAddr};
-use answer::Answer;
+use answer::{Answer, Refusal};
 
 // Whether any of flag bits 2 to 15 is set.
 pub(crate) fn unknown_request(flags: u32) -> bool
@@ -47,18 +47,18 @@ pub(crate) fn cut_off(at: ImageOffset, n: usize) -> bool
 
 // The first of checks 12 and 13 that refuses a load of `len` bytes from the offset, of an image of n bytes.
 #[tactic(auto, unfolding(crate::specs::Judged::load_checks, laws::specs::Checks::first_of))]
-pub(crate) fn check_load(h: AddressFields, offset: ImageOffset, len: usize, n: usize) -> Answer
+pub(crate) fn check_load(h: AddressFields, offset: ImageOffset, len: usize, n: usize) -> Answer<()>
     requires { (offset.0 + len < 2 ^ 64) × (load_end h len < 2 ^ 64) }
-    ensures { result ≡ first_of (load_checks h offset.0 len n) Answer.Load }
+    ensures { result ≡ first_of (load_checks h offset.0 len n) tt }
 {
     let loaded = load::load_end(h, len);
     if past_image(h, offset, len, n) {
-        return Answer::LoadPastImage;
+        return Err(Refusal::LoadPastImage);
     }
     if bss_below(h, loaded) {
-        return Answer::BssBelowLoadEnd;
+        return Err(Refusal::BssBelowLoadEnd);
     }
-    Answer::Load
+    Ok(())
 }
 
 // Whether the load ends before it begins, or past the image.

@@ -12,48 +12,48 @@ ghost use Rattle.image.specs.Judged.{found_header, load_checks, kernel_for, fiel
 ghost use Rattle.image.specs.Judge.{judged};
 
 use address::ImageOffset;
-use answer::Answer;
+use answer::{Answer, Refusal};
 use header::FLAGS;
-use kernel::{FoundHeader, Judged, Kernel, MAX_SEGMENTS, Segment};
+use kernel::{FoundHeader, Kernel, MAX_SEGMENTS, Segment};
 use load::AddressFields;
 
 mod check;
 mod load;
 
-// The answer for an image, and the kernel that it asks for where no check refuses it.
+// The kernel that an image asks for, or the first refusal.
 #[tactic(auto, using(crate::proofs::RefusalLaws::no_header))]
-pub fn judge(image: &[u8]) -> Judged
+pub fn judge(image: &[u8]) -> Answer<Kernel>
     ensures { result ≡ judged image.now }
 {
     let searched = header::find_header(image);
     let Some(at) = searched.header else {
-        return kernel::refused(Answer::NoHeader(searched.false_headers));
+        return Err(Refusal::NoHeader(searched.false_headers));
     };
     judge_header(image, at, searched.false_headers)
 }
 
 // The answer for an image whose header was found behind so many false ones.
-fn judge_header(image: &[u8], at: ImageOffset, passed: u32) -> Judged
+fn judge_header(image: &[u8], at: ImageOffset, passed: u32) -> Answer<Kernel>
     requires { (header image.now ≡ Some at) × (passed ≡ false_headers image.now) }
     ensures { result ≡ judged image.now }
 {
     let flags = number::read_u32(image, at.0 + FLAGS);
     if check::unknown_request(flags) {
-        return kernel::refused(Answer::UnknownRequest);
+        return Err(Refusal::UnknownRequest);
     }
     if check::undefined_bits(flags) {
-        return kernel::refused(Answer::UndefinedBits);
+        return Err(Refusal::UndefinedBits);
     }
     if check::unknown_kind(image, flags) {
-        return kernel::refused(Answer::NoAddressFields);
+        return Err(Refusal::NoAddressFields);
     }
     judge_kind(image, at, passed, flags)
 }
 
 // The answer of the checks on address fields or on an ELF image, as the flags say, and of the one on the entry.
-fn judge_kind(image: &[u8], at: ImageOffset, passed: u32, flags: u32) -> Judged
+fn judge_kind(image: &[u8], at: ImageOffset, passed: u32, flags: u32) -> Answer<Kernel>
     requires { (header image.now ≡ Some at) × (passed ≡ false_headers image.now) × (flags ≡ flags_at image.now at.0) }
-    ensures { result ≡ with_entry (first_of (kind_checks image.now) Answer.Load) (kernel_of image.now) }
+    ensures { result ≡ with_entry (first_of (kind_checks image.now) tt) (kernel_of image.now) }
 {
     let found = FoundHeader {
         offset: at,
@@ -67,31 +67,30 @@ fn judge_kind(image: &[u8], at: ImageOffset, passed: u32, flags: u32) -> Judged
 }
 
 // The answer of the checks on the address fields of the header found, and of the one on the entry.
-fn judge_fields(image: &[u8], found: FoundHeader) -> Judged
+fn judge_fields(image: &[u8], found: FoundHeader) -> Answer<Kernel>
     requires { (header image.now ≡ Some found.offset) × (found ≡ found_header image.now) }
-    ensures { result ≡ with_entry (first_of (field_checks image.now) Answer.Load) (fields_kernel image.now) }
+    ensures { result ≡ with_entry (first_of (field_checks image.now) tt) (fields_kernel image.now) }
 {
     let at = found.offset;
     if check::cut_off(at, image.len()) {
-        return kernel::refused(Answer::HeaderCutOff);
+        return Err(Refusal::HeaderCutOff);
     }
     let h = load::read_fields(image, at.0);
     let Some(offset) = load::load_offset(h, at) else {
-        return kernel::refused(Answer::LoadBeforeImage);
+        return Err(Refusal::LoadBeforeImage);
     };
     judge_load(h, found, offset, image.len())
 }
 
 // The answer for an image of n bytes whose load begins at the offset, once its header is accepted.
 #[tactic(auto, using(crate::proofs::RefusalLaws::length_fits, crate::proofs::RefusalLaws::one_few))]
-fn judge_load(h: AddressFields, found: FoundHeader, offset: ImageOffset, n: usize) -> Judged
+fn judge_load(h: AddressFields, found: FoundHeader, offset: ImageOffset, n: usize) -> Answer<Kernel>
     requires { Narrow h × (offset.0 < n) × (n < 2 ^ 63) }
-    ensures { result ≡ with_entry (first_of (load_checks h offset.0 (load_length h offset.0 n) n) Answer.Load) (kernel_for h found offset.0 (load_length h offset.0 n)) }
+    ensures { result ≡ with_entry (first_of (load_checks h offset.0 (load_length h offset.0 n) n) tt) (kernel_for h found offset.0 (load_length h offset.0 n)) }
 {
     let len = load::load_length(h, offset, n);
     let answer = check::check_load(h, offset, len, n);
-    let kernel = kernel_for(h, found, offset, len);
-    kernel::judge_entry(answer, kernel)
+    kernel::judge_entry(answer, kernel_for(h, found, offset, len))
 }
 
 // The kernel of the header found, with `len` bytes to load from the offset.

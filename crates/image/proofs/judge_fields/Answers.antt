@@ -5,13 +5,13 @@ use Rattle.image.proofs.RefusalLaws.{WholeHeader, cut_off_lem, before_image_lem,
 use Rattle.image.proofs.judge_fields.Goals as goal
 
 pub returns-then-cut_off : goal.returns-then-cut_off
-returns-then-cut_off c = c.refused.ensures ∙ cut_off_lem c.args.image.now c.args.found.offset c.requires.0 (told c.cut_off.ensures c.if-cut_off.true)
+returns-then-cut_off c = cut_off_lem c.args.image.now c.args.found.offset c.requires.0 (told c.cut_off.ensures c.if-cut_off.true)
 
 pub returns-in_default : goal.returns-in_default
 returns-in_default c =
     let w : WholeHeader c.args.image.now c.args.found.offset c.read_fields-h.result =
     record { found = c.requires.0; whole = told c.cut_off.ensures c.if-cut_off.false; read = c.read_fields-h.ensures.0 } in
-    c.refused-in_default.ensures ∙ before_image_lem w c.load_offset.result c.load_offset.ensures c.in_default.is
+    before_image_lem w c.load_offset.result c.load_offset.ensures c.in_default.is
 
 pub returns : goal.returns
 returns c =

@@ -11,17 +11,17 @@ overflow_add-at c = omega (arith, (header_lowest c.args.image.now c.args.at c.re
 pub returns-then-unknown_request : goal.returns-then-unknown_request
 returns-then-unknown_request c =
     let f : FlagsFound c.args.image.now c.args.at c.read_u32-flags.result = record { found = c.requires.0; read = c.read_u32-flags.ensures } in
-    c.refused.ensures ∙ unknown_request_lem f (told c.unknown_request.ensures c.if-unknown_request.true)
+    unknown_request_lem f (told c.unknown_request.ensures c.if-unknown_request.true)
 
 pub returns-then-undefined_bits : goal.returns-then-undefined_bits
 returns-then-undefined_bits c =
     let f : FlagsFound c.args.image.now c.args.at c.read_u32-flags.result = record { found = c.requires.0; read = c.read_u32-flags.ensures } in
-    c.refused-then-undefined_bits.ensures ∙ undefined_bits_lem f (told c.unknown_request.ensures c.if-unknown_request.false) (told c.undefined_bits.ensures c.if-undefined_bits.true)
+    undefined_bits_lem f (told c.unknown_request.ensures c.if-unknown_request.false) (told c.undefined_bits.ensures c.if-undefined_bits.true)
 
 pub returns-then-unknown_kind : goal.returns-then-unknown_kind
 returns-then-unknown_kind c =
     let f : FlagsFound c.args.image.now c.args.at c.read_u32-flags.result = record { found = c.requires.0; read = c.read_u32-flags.ensures } in
-    c.refused-then-unknown_kind.ensures ∙ unknown_kind_lem f (told c.unknown_request.ensures c.if-unknown_request.false) (told c.undefined_bits.ensures c.if-undefined_bits.false) (told c.unknown_kind.ensures c.if-unknown_kind.true)
+    unknown_kind_lem f (told c.unknown_request.ensures c.if-unknown_request.false) (told c.undefined_bits.ensures c.if-undefined_bits.false) (told c.unknown_kind.ensures c.if-unknown_kind.true)
 
 pub returns : goal.returns
 returns c =
