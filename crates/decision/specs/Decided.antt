@@ -1,15 +1,13 @@
 -- The stages of a decision, and what they leave.          rules: ANSWERS (15 to 17), PLAN, HANDOVER
 --     kernel_open, kernel_checks      15: every address of the kernel's extents is open
 --     room_checks                     16 and 17: each module and the information block found room
---     boot_magic, plan_of, no_plan    the plan of a load, and that of a refusal
---     decided_by                      the answer of a chain of checks, with the plan where it is a load
+--     boot_magic, plan_of             the plan of a load
 --     placed_by, memory_decision      where the items go, and the decision on memory alone
 -- Assumes nothing.
-use Rattle.std.specs.Prelude.{Bool, not, cond, List, [], ◌∷◌, ◌++◌, ℕ, ◌+◌, ◌-◌, ltb}
+use Rattle.std.specs.Prelude.{Bool, not, List, [], ◌∷◌, ◌++◌, ℕ, ◌+◌, ◌-◌, ltb}
 use Rattle.laws.specs.Tests.{all_from}
 use Rattle.laws.specs.Checks.{Check, first_of, ◌gives◌}
 use Rattle.address.specs.Span.{span_no}
-use Rattle.answer.specs.Answer.{is_load}
 use Rattle.answer.specs.declared.Refusal.{Refusal}
 use Rattle.answer.specs.declared.Refusal.TheVariants.{KernelNotOpen, NoRoomForModule, NoRoomForBlock}
 use Rattle.submission.specs.declared.Layout.{Layout}
@@ -22,8 +20,7 @@ use Rattle.placement.specs.declared.Placed.{Placed}
 use Rattle.placement.specs.Order.{place_items}
 use Rattle.items.specs.LoadItems.{extents_of, items_of, module_spans}
 use Rattle.decision.specs.declared.Plan.{Plan}
-use Rattle.decision.specs.declared.Decision.{Decision}
-use Rattle.decision.specs.Plan.{no_plan}
+use Rattle.decision.specs.Plan.{Decision}
 
 -- the kernel's extents lie wholly in open memory
 unfoldable pub extent_open : Board → Kernel → ℕ → Bool
@@ -55,10 +52,6 @@ plan_of k t n =
       ebx = (span_no t.list (k.count + n)).start.0;
     }
 
--- a refusal comes with zeros
-unfoldable pub decided_by : List (Check Refusal) → Plan → Decision
-decided_by ks p = record { answer = first_of ks Load; plan = cond (is_load (first_of ks Load)) p no_plan }
-
 -- each module in list order, then the information block of so many bytes, beside the kernel's extents
 unfoldable pub placed_by : Board → Kernel → Layout → ℕ → Placed
 placed_by b k l size = place_items (is_open b) (extents_of k) (items_of l k.pages size)
@@ -71,4 +64,4 @@ abbrev pub memory_plan : Board → Kernel → Layout → ℕ → Plan
 memory_plan b k l size = plan_of k (placed_by b k l size).spans l.count
 
 abbrev pub memory_decision : Board → Kernel → Layout → ℕ → Decision
-memory_decision b k l size = decided_by (memory_checks b k l size) (memory_plan b k l size)
+memory_decision b k l size = first_of (memory_checks b k l size) (memory_plan b k l size)

@@ -1,10 +1,9 @@
 -- The decision on what is lent: the order of checks, and the plan.             rules: ANSWERS, PLAN
 --     lent_checks    the checks on what is lent
 --     checks         all checks in their order
---     answer_of      the answer
 --     placed_in      where the modules and the information block go
 --     plan_in        the plan of a load
---     decision_of    the answer with its plan, all zeros in a refusal
+--     decision_of    the plan, or the first refusal
 -- Assumes nothing.
 use Rattle.std.specs.Prelude.{List, ◌++◌}
 use Rattle.laws.specs.Checks.{Check, first_of}
@@ -16,10 +15,10 @@ use Rattle.memory_map.specs.Map.{map_checks}
 use Rattle.board.specs.Window.{window_checks}
 use Rattle.placement.specs.declared.Placed.{Placed}
 use Rattle.decision.specs.declared.Plan.{Plan}
-use Rattle.decision.specs.declared.Decision.{Decision}
+use Rattle.decision.specs.Plan.{Decision}
 use Rattle.decision.specs.Lent.{Lent}
 use Rattle.decision.specs.Read.{layout_in, image_in, kernel_in, board_in, block_length_in}
-use Rattle.decision.specs.Decided.{placed_by, memory_checks, memory_plan, decided_by}
+use Rattle.decision.specs.Decided.{placed_by, memory_checks, memory_plan}
 
 abbrev pub placed_in : Lent → Placed
 placed_in x = placed_by (board_in x) (kernel_in x) (layout_in x) (block_length_in x)
@@ -37,11 +36,8 @@ lent_checks x =
 unfoldable pub checks : Lent → List (Check Refusal)
 checks x = lent_checks x ++ memory_checks (board_in x) (kernel_in x) (layout_in x) (block_length_in x)
 
-abbrev pub answer_of : Lent → Answer
-answer_of x = first_of (checks x) Load
-
 abbrev pub plan_in : Lent → Plan
 plan_in x = memory_plan (board_in x) (kernel_in x) (layout_in x) (block_length_in x)
 
 unfoldable pub decision_of : Lent → Decision
-decision_of x = decided_by (checks x) (plan_in x)
+decision_of x = first_of (checks x) (plan_in x)

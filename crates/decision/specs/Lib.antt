@@ -4,7 +4,6 @@ pub mod Lent
 pub mod Read
 pub mod Plan
 pub mod Decided
-pub mod DecidedLaws
 pub mod PlacedLaws
 pub mod StageLaws
 pub mod DecisionLaws

@@ -7,11 +7,9 @@ ghost use Rattle.placement.specs.Free.{max_spans};
 ghost use Rattle.kernel.specs.Kernel.{max_segments};
 ghost use Rattle.decision.specs.PlacedLaws.{Prepared};
 ghost use Rattle.decision.specs.Decided.{kernel_open, room_checks, plan_of, memory_decision};
-ghost use Rattle.decision.specs.Plan.{no_plan};
 
-use crate::{Decision, Plan};
-use address::Span;
-use answer::Answer;
+use crate::Plan;
+use answer::{Answer, Refusal};
 use board::Board;
 use kernel::Kernel;
 use placement::Spans;
@@ -37,17 +35,17 @@ fn kernel_open(board: Board, kernel: Kernel) -> bool
 
 // The answer where `done` of n modules and the information block found room.
 #[tactic(auto, unfolding(crate::specs::Decided::room_checks, laws::specs::Checks::first_of))]
-fn check_room(done: usize, n: usize) -> Answer
+fn check_room(done: usize, n: usize) -> Answer<()>
     requires { n ≤ max_modules }
-    ensures { result ≡ first_of (room_checks done n) Answer.Load }
+    ensures { result ≡ first_of (room_checks done n) tt }
 {
     if done < n {
-        return Answer::NoRoomForModule(done as u32);
+        return Err(Refusal::NoRoomForModule(done as u32));
     }
     if done <= n {
-        return Answer::NoRoomForBlock;
+        return Err(Refusal::NoRoomForBlock);
     }
-    Answer::Load
+    Ok(())
 }
 
 // The plan of n modules and the information block, placed behind the kernel's extents.
@@ -67,40 +65,16 @@ fn plan_of(kernel: Kernel, spans: Spans, n: usize) -> Plan
     }
 }
 
-// A refusal has a plan of zeros.
-#[tactic(auto, unfolding(crate::specs::Plan::no_plan))]
-pub(crate) fn refuse(a: Answer) -> Decision
-    ensures { result ≡ record { answer = a; plan = no_plan } }
-{
-    Decision {
-        answer: a,
-        plan: Plan {
-            kernel: kernel::no_kernel(),
-            modules: [Span::none(); submission::MAX_MODULES],
-            block: Span::none(),
-            eax: 0,
-            ebx: 0,
-        },
-    }
-}
-
-// The decision on an accepted kernel with the modules of a submission and an information block of `size` bytes.
-pub(crate) fn decide_memory(board: Board, kernel: Kernel, layout: Layout, size: u64) -> Decision
+// The plan for an accepted kernel with the modules of a submission and an information block of `size` bytes, or 15 to 17.
+pub(crate) fn decide_memory(board: Board, kernel: Kernel, layout: Layout, size: u64) -> Answer<Plan>
     requires { Prepared board kernel layout size }
     ensures { result ≡ memory_decision board kernel layout size }
 {
     if !kernel_open(board, kernel) {
-        return refuse(Answer::KernelNotOpen);
+        return Err(Refusal::KernelNotOpen);
     }
     let items = items::items(layout, kernel.pages, size);
     let placed = placement::order::place_items(board, items::extents(kernel), items);
-    let verdict = check_room(placed.done, layout.count);
-    if !answer::is_load(verdict) {
-        return refuse(verdict);
-    }
-    let spans = placed.spans;
-    Decision {
-        answer: verdict,
-        plan: plan_of(kernel, spans, layout.count),
-    }
+    check_room(placed.done, layout.count)?;
+    Ok(plan_of(kernel, placed.spans, layout.count))
 }
