@@ -15,8 +15,8 @@ use Rattle.laws.proofs.TableLaws.{table_at, table_past}
 use Rattle.address.specs.Address.{top}
 use Rattle.address.specs.Span.{no_span, span_no, Holds}
 use Rattle.address.specs.declared.Span.{Span}
-use Rattle.answer.specs.Answer.{is_load}
-use Rattle.answer.specs.ChainLaws.{chain_append, or_else_load}
+use Rattle.laws.specs.Checks.{passes}
+use Rattle.laws.proofs.CheckLaws.{passes_both}
 use Rattle.submission.specs.Layout.{module_no}
 use Rattle.submission.specs.Format.{max_modules}
 use Rattle.image.specs.JudgedLaws.{good_kernel}
@@ -32,10 +32,10 @@ use Rattle.items.specs.LoadItemsLaws.{item_at, item_module, item_block}
 use Rattle.decision.specs.Lent.{Lent}
 use Rattle.decision.specs.Read.{layout_in, image_in, kernel_in, board_in, block_length_in}
 use Rattle.decision.specs.Decided.{extent_open, kernel_open, kernel_checks, plan_of}
-use Rattle.decision.specs.Decision.{lent_checks, checks, answer_of, placed_in, plan_in}
-use Rattle.decision.specs.DecisionLaws.{lent_refuses, LentPassed, lent_passed, prepared}
+use Rattle.decision.specs.Decision.{lent_checks, checks, placed_in, plan_in}
+use Rattle.decision.specs.DecisionLaws.{LentPassed, lent_passed, prepared}
 use Rattle.decision.specs.PlacedLaws.{item_some, load_in_order}
-use Rattle.decision.specs.StageLaws.{kernel_refuses, kernel_passed, all_placed}
+use Rattle.decision.specs.StageLaws.{kernel_passed, all_placed}
 
 -- what is known where no check refuses
 pub record Loads (x : Lent) : Type 0 where
@@ -43,11 +43,11 @@ pub record Loads (x : Lent) : Type 0 where
   pub opened : kernel_open (board_in x) (kernel_in x) ≡ true
   pub placed : (layout_in x).count + 1 ≤ (placed_in x).done
 
-pub loads : (x : Lent) → is_load (answer_of x) ≡ true → Loads x
+pub loads : (x : Lent) → passes (checks x) ≡ true → Loads x
 unfolding checks
 loads x h =
-    let a = or_else_load _ _ (ap is_load (sym (chain_append (lent_checks x) _ (lent_refuses x))) ∙ h) in
-    let b = or_else_load _ _ (ap is_load (sym (chain_append (kernel_checks (board_in x) (kernel_in x)) _ (kernel_refuses (board_in x) (kernel_in x)))) ∙ a.1) in
+    let a = passes_both (lent_checks x) _ h in
+    let b = passes_both (kernel_checks (board_in x) (kernel_in x)) _ a.1 in
     record { passed = lent_passed x a.0; opened = kernel_passed (board_in x) (kernel_in x) b.0; placed = all_placed _ _ b.1 }
 
 -- the spans of a load, in this order: the kernel's extents, the modules, the information block

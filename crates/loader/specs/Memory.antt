@@ -7,21 +7,21 @@
 -- Assumes nothing.
 use Rattle.std.specs.Prelude.{cond, List, [], ◌∷◌, ◌++◌, ℕ, ◌-◌}
 use Rattle.laws.specs.Table.{listed}
+use Rattle.laws.specs.Checks.{passes}
 use Rattle.buffer.specs.Patched.{zeros}
 use Rattle.buffer.specs.Writes.{Write, written}
 use Rattle.address.specs.declared.Span.{Span}
 use Rattle.address.specs.Span.{span_no}
-use Rattle.answer.specs.Answer.{is_load}
 use Rattle.submission.specs.declared.Layout.{Layout}
 use Rattle.submission.specs.Layout.{bytes_of, module_no}
 use Rattle.command_line.specs.CommandLine.{command_line}
 use Rattle.kernel.specs.declared.Kernel.{Kernel}
 use Rattle.kernel.specs.Kernel.{segment_no}
-use Rattle.memory_map.specs.Parse.{parsed_map}
+use Rattle.memory_map.specs.Parse.{pairs_read}
 use Rattle.usable.specs.Sizes.{mem_lower, mem_upper}
 use Rattle.decision.specs.Lent.{Lent}
 use Rattle.decision.specs.Read.{layout_in, image_in}
-use Rattle.decision.specs.Decision.{answer_of, plan_in}
+use Rattle.decision.specs.Decision.{checks, plan_in}
 use Rattle.block.specs.Block.{Contents, contents_of, block_of}
 
 -- the first load byte of segment i stands at its start; f is the window's first address
@@ -39,7 +39,7 @@ module_write f s l spans i = record { at = (span_no spans i).start.0 - f; bytes 
 -- what the information block says of modules at these spans, standing from the address `start` on
 abbrev pub contents_for : List ℕ → List ℕ → List ℕ → Layout → List Span → ℕ → Contents
 contents_for s operator m l spans start =
-    contents_of s l spans m (command_line operator s) start (mem_lower (parsed_map m).map) (mem_upper (parsed_map m).map)
+    contents_of s l spans m (command_line operator s) start (mem_lower (pairs_read m)) (mem_upper (pairs_read m))
 
 unfoldable pub contents_in : Lent → Contents
 contents_in x = contents_for x.submission x.operator x.map (layout_in x) (plan_in x).modules (plan_in x).block.start.0
@@ -59,4 +59,4 @@ writes_of x = segment_writes x ++ module_writes x ++ (block_write x ∷ [])
 
 -- a load makes its writes, and a refusal none
 unfoldable pub memory_after : Lent → List ℕ → List ℕ
-memory_after x w = cond (is_load (answer_of x)) (written w (writes_of x)) w
+memory_after x w = cond (passes (checks x)) (written w (writes_of x)) w

@@ -63,8 +63,11 @@ module _ (x : Lent) (h : Loads x) where
       record { low = omega (arith, s.top); inside = omega (arith, s.low, s.high) }
 
   -- the layout read again is the load's
-  pub layout_read : (r : ParsedSubmission) → r ≡ parsed_submission x.submission → r.layout ≡ layout_in x
-  layout_read r e = rw e (parsed_layout x.submission h.passed.rules)
+  pub layout_read : parsed_submission x.submission ≡ Ok (layout_in x)
+  layout_read = parsed_good x.submission h.passed.rules
+
+  pub map_read : parsed_map x.map ≡ Ok (map_of x.map)
+  map_read = parsed_good_map x.map h.passed.map
 
 -- the plan and the layout as they are handed over
 module _ (x : Lent) (h : Loads x) (p : Plan) (l : Layout) (pe : p ≡ plan_in x) (le : l ≡ layout_in x) where
@@ -96,21 +99,15 @@ module _ (x : Lent) (h : Loads x) (p : Plan) (l : Layout) (pe : p ≡ plan_in x)
       c ∙ rw (b, a, ie, pe, le, written_append w (segment_writes x ++ module_writes x) (block_write x ∷ []), written_append w (segment_writes x) (module_writes x)) refl
 
 -- the decision as it is handed over
-module _ (x : Lent) (d : Decision) (e : d ≡ decision_of x) where
-  answer_is : is_load d.answer ≡ is_load (answer_of x)
-  unfolding decision_of decided_by
-  answer_is = rw e refl
+module _ (x : Lent) where
+  pub decision_loaded : (q : Plan) → decision_of x ≡ Ok q → PlanOfLoad x q
+  unfolding decision_of
+  decision_loaded q e = let l = ok_passed (checks x) q (plan_in x) e in record { load = l.0; plan = l.1 }
 
-  pub decision_loaded : is_load d.answer ≡ true → PlanOfLoad x d.plan
-  unfolding decision_of decided_by
-  decision_loaded h =
-      let l : is_load (answer_of x) ≡ true = sym answer_is ∙ h in
-      record { load = l; plan = rw (e, l) refl }
-
-  pub memory_loaded : (w v : List ℕ) → is_load d.answer ≡ true → v ≡ written w (writes_of x) → v ≡ memory_after x w
+  pub memory_loaded : (q : Plan) → decision_of x ≡ Ok q → (w v : List ℕ) → v ≡ written w (writes_of x) → v ≡ memory_after x w
   unfolding memory_after
-  memory_loaded w v h f = let l : is_load (answer_of x) ≡ true = sym answer_is ∙ h in rw l f
+  memory_loaded q e w v f = let l : passes (checks x) ≡ true = (decision_loaded q e).load in rw l f
 
-  pub memory_refused : (w : List ℕ) → is_load d.answer ≡ false → w ≡ memory_after x w
-  unfolding memory_after
-  memory_refused w h = let l : is_load (answer_of x) ≡ false = sym answer_is ∙ h in rw l refl
+  pub memory_refused : (r : Refusal) → decision_of x ≡ Err r → (w : List ℕ) → w ≡ memory_after x w
+  unfolding memory_after decision_of
+  memory_refused r e w = let l : passes (checks x) ≡ false = err_failed (checks x) r (plan_in x) e in rw l refl
