@@ -4,7 +4,8 @@ use mathlib.Core.Path.{◌≡◌, refl, ◌∙◌}
 use mathlib.Core.List.{List, [], ◌∷◌, ◌++◌}
 use Prim.Native.Nat.{ℕ, ◌+◌, ◌*◌, ◌≤◌, ◌<◌}
 use native.Mathlib.Omega.{arith}
-use lib.ListN.{length, take, drop, length-append}
+use lib.ListN.{length, take, get_or, length-append}
+use lib.Seq.{get_or-take}
 use Rattle.laws.proofs.TableLaws.{length_listed, listed_more}
 use Rattle.buffer.specs.Patched.{patched}
 use Rattle.buffer.specs.PatchedLaws.{patched-append}
@@ -13,11 +14,12 @@ use Rattle.number.specs.NumberLaws.{length_word_bytes, word_bytes_append}
 use Rattle.address.specs.declared.Span.{Span}
 use Rattle.address.specs.Span.{span_no}
 use Rattle.submission.specs.declared.Layout.{Layout}
-use Rattle.submission.specs.Layout.{module_no}
+use Rattle.submission.specs.Layout.{no_module, module_no, bytes_of}
+use Rattle.submission.specs.FormatLaws.{length-bytes_of}
 use Rattle.block.specs.declared.Structure.{Structure}
 use Rattle.block.specs.Block.{structure_size, structure_words, loader_name, map_offset, strings_offset, structure_for, parts_of, block_of, contents_of, module_entry_size, address_of, text_bytes, texts_size, entry_words, entries, texts, string_lengths}
 use Rattle.block.specs.TextSize.{text_size}
-use Rattle.block.specs.TextLaws.{length-text_bytes, text_some, texts_more, entries_more, length_entries}
+use Rattle.block.specs.TextLaws.{length-text_bytes, text_some, texts_more, entries_more, length_entries, strings_turn}
 use Rattle.block.specs.Writing.{module_entry_no, entries_of, strings_of, StringsIn}
 use Rattle.block.specs.WritingLaws.{entry_texts, block_is, length_strings}
 
@@ -27,25 +29,34 @@ pub text_written : (w : List ℕ) (at : ℕ) (s u v : List ℕ) → (length s �
     → v ≡ patched w at (text_bytes s)
 text_written w at s u v e p q = rw (q, p, text_some s e) (patched-append w at s (0 ∷ []))
 
+-- the string of a turn has room where all have
+pub string_room : (s : List ℕ) (l : Layout) (n i : ℕ) (t : List ℕ)
+    → ((k : ℕ) → k < n → (module_no l k).string.at + (module_no l k).string.len ≤ length s) → i < n
+    → t ≡ bytes_of s (get_or (take n l.modules) i no_module).string
+    → texts_size (string_lengths l i) + length t ≤ texts_size (string_lengths l n)
+string_room s l n i t h k e =
+    let m : length (bytes_of s (module_no l i).string) ≡ (module_no l i).string.len = length-bytes_of s (module_no l i).string (h i k) in
+    rw (e, get_or-take, m) (rw get_or-take at (strings_turn l n i k).2)
+
 -- a string more, behind those written
-pub string_written : (w : List ℕ) (at : ℕ) (s : List ℕ) (l : Layout) (i next n : ℕ) (u v : List ℕ)
-    → ((k : ℕ) → k < i → (module_no l k).string.at + (module_no l k).string.len ≤ length s)
-    → next ≡ at + texts_size (string_lengths l i) → n ≡ (module_no l i).string.len
-    → u ≡ patched w at (texts (strings_of s l i)) → v ≡ patched u next (text_bytes (take n (drop (module_no l i).string.at s)))
+pub string_written : (w : List ℕ) (at : ℕ) (s : List ℕ) (l : Layout) (n i next : ℕ) (u v t : List ℕ)
+    → ((k : ℕ) → k < n → (module_no l k).string.at + (module_no l k).string.len ≤ length s) → i < n
+    → next ≡ at + texts_size (string_lengths l i) → t ≡ bytes_of s (get_or (take n l.modules) i no_module).string
+    → u ≡ patched w at (texts (strings_of s l i)) → v ≡ patched u next (text_bytes t)
     → v ≡ patched w at (texts (strings_of s l (i + 1)))
-string_written w at s l i next n u v h e d p q =
-    rw (q, p, e, d, ← length_strings s l i h, patched-append, listed_more, texts_more) refl
+string_written w at s l n i next u v t h k e d p q =
+    rw (q, p, e, d, ← length_strings s l i (λ j m. h j (omega arith)), patched-append, listed_more, texts_more, get_or-take) refl
 
 -- an entry more, behind those written
-pub entry_written : (w : List ℕ) (at : ℕ) (l : Layout) (spans : List Span) (a i next x : ℕ) (u v : List ℕ)
-    → next ≡ a + texts_size (string_lengths l i) → x ≡ address_of next (module_no l i).string.len
+pub entry_written : (w : List ℕ) (at : ℕ) (l : Layout) (spans : List Span) (n a i next x : ℕ) (u v : List ℕ)
+    → i < n → next ≡ a + texts_size (string_lengths l i) → x ≡ address_of next (get_or (take n l.modules) i no_module).string.len
     → u ≡ patched w at (word_bytes (entries a (entries_of l spans i)))
     → v ≡ patched u (at + module_entry_size * i) (word_bytes ((span_no spans i).start.0 ∷ (span_no spans i).end.0 ∷ x ∷ 0 ∷ []))
     → v ≡ patched w at (word_bytes (entries a (entries_of l spans (i + 1))))
 unfolding entry_words
-entry_written w at l spans a i next x u v d f p q =
+entry_written w at l spans n a i next x u v h d f p q =
     let e : length (word_bytes (entries a (entries_of l spans i))) ≡ module_entry_size * i = length_word_bytes (entries a (entries_of l spans i)) ∙ omega (arith, length_entries (entries_of l spans i) a, length_listed (module_entry_no l spans) i) in
-    rw (q, p, f, d, ← e, patched-append, listed_more, entries_more, entry_texts, word_bytes_append) refl
+    rw (q, p, f, d, ← e, patched-append, listed_more, entries_more, entry_texts, word_bytes_append, get_or-take) refl
 
 -- the entries behind the structure
 pub tables_written : (w : List ℕ) (at : ℕ) (st : Structure) (words es u v : List ℕ)

@@ -4,16 +4,16 @@
 --     text_none, text_some, length-text_bytes      a text's bytes
 --     texts_size_more, texts_more, entries_more    one text, one entry more
 --     length_entries, length-string_lengths        how many there are
---     strings_more, strings_fewer, strings_room    the strings of a layout
+--     strings_more, strings_fewer, strings_turn    the strings of a layout
 --     block_length_lem                             the length of a block with the first n strings
 -- Assumes nothing.
-use Rattle.std.specs.Prelude.{◌≡◌, refl, List, [], ◌∷◌, ◌++◌, map, ℕ, zero, suc, ◌+◌, ◌*◌, ◌≤◌, ◌<◌, length}
+use Rattle.std.specs.Prelude.{◌≡◌, refl, List, [], ◌∷◌, ◌++◌, map, ℕ, zero, suc, ◌+◌, ◌*◌, ◌≤◌, ◌<◌, length, get_or, take}
 use Rattle.std.proofs.Math.Path.{ap}
-use Rattle.std.proofs.Common.{append_assoc, append-nil, ⊎_elim, add-zero, eq-or-lt_of_le, le_of_suc-le-suc, add-one, arith, length-append}
+use Rattle.std.proofs.Common.{append_assoc, append-nil, ⊎_elim, add-zero, eq-or-lt_of_le, le_of_suc-le-suc, add-one, arith, length-append, get_or-take}
 use Rattle.laws.specs.Table.{listed}
 use Rattle.laws.proofs.TableLaws.{length_listed}
 use Rattle.submission.specs.declared.Layout.{Layout}
-use Rattle.submission.specs.Layout.{module_no}
+use Rattle.submission.specs.Layout.{no_module, module_no}
 use Rattle.block.specs.Block.{ModuleEntry, text_of, entry_words, text_bytes, texts_size, address_of, line_flags, flags_of, entries, texts, strings_offset, block_length, string_lengths}
 use Rattle.block.specs.TextSize.{text_size}
 
@@ -118,6 +118,11 @@ module _ (l : Layout) where
   unfolding block_length
   block_length_lem n map_length line_length = ap (λ (k : ℕ). strings_offset k map_length line_length + texts_size (string_lengths l n)) (length-string_lengths n)
 
-  -- one string more than the first i has room where all have
-  pub strings_room : (n i : ℕ) → i < n → texts_size (string_lengths l i) + text_size (module_no l i).string.len ≤ texts_size (string_lengths l n)
-  strings_room n i h = omega (arith, strings_suc i, strings_fewer n (suc i) h)
+  -- a loop over the first n modules at its turn i: one string more; it has room where all have, with its zero or without
+  pub strings_turn : (n i : ℕ) → i < n
+      → (texts_size (string_lengths l (i + 1)) ≡ texts_size (string_lengths l i) + text_size (get_or (take n l.modules) i no_module).string.len)
+      × (texts_size (string_lengths l (i + 1)) ≤ texts_size (string_lengths l n))
+      × (texts_size (string_lengths l i) + (get_or (take n l.modules) i no_module).string.len ≤ texts_size (string_lengths l n))
+  strings_turn n i h =
+      let all : texts_size (string_lengths l (i + 1)) ≤ texts_size (string_lengths l n) = strings_fewer n (i + 1) (omega arith) in
+      rw get_or-take (strings_more i, all, omega (arith, strings_more i, size_low (module_no l i).string.len))

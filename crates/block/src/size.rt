@@ -29,10 +29,7 @@ pub(crate) fn text_size(n: usize) -> usize
     requires { text_size n < 2 ^ 64 }
     ensures { result ≡ text_size n }
 {
-    if n == 0 {
-        return 0;
-    }
-    n + 1
+    if n == 0 { 0 } else { n + 1 }
 }
 
 // Where the parts stand in a block with `count` modules, a map of `map_length` and a command line of `line_length` bytes.
@@ -57,14 +54,10 @@ pub fn block_length(layout: Layout, map_length: usize, line_length: usize) -> us
     requires { (layout.count ≤ max_modules) × (block_length (string_lengths layout layout.count) map_length line_length < 2 ^ 64) }
     ensures { result ≡ block_length (string_lengths layout layout.count) map_length line_length }
 {
-    let count = layout.count;
-    let o = part_offsets(count, map_length, line_length);
+    let o = part_offsets(layout.count, map_length, line_length);
     let mut size = o.strings;
-    let mut i = 0;
-    while i < count {
-        let m = layout.modules[i];
+    for m in &layout.modules[..layout.count] {
         size += text_size(m.string.len);
-        i += 1;
     }
     size
 }

@@ -173,11 +173,8 @@ fn write_entries(
     requires { SpansLow layout spans × (at + module_entry_size * layout.count < 2 ^ 64) × (strings + texts_size (string_lengths layout layout.count) ≤ 2 ^ 32) }
     ensures { window.new ≡ patched window.old at (word_bytes (entries strings (entries_of layout spans layout.count))) }
 {
-    let count = layout.count;
     let mut next = strings;
-    let mut i = 0;
-    while i < count {
-        let m = layout.modules[i];
+    for (i, m) in layout.modules[..layout.count].iter().enumerate() {
         let n = m.string.len;
         let span = spans[i];
         let words = [
@@ -188,7 +185,6 @@ fn write_entries(
         ];
         number::write_words(window, at + size::MODULE_ENTRY * i, &words);
         next += size::text_size(n) as u64;
-        i += 1;
     }
 }
 
@@ -197,12 +193,10 @@ fn write_text(window: &mut [u8], at: usize, text: &[u8])
     requires { at + length text.now < 2 ^ 64 }
     ensures { window.new ≡ patched window.old at (text_bytes text.now) }
 {
-    let n = text.len();
-    if n == 0 {
-        return;
+    if !text.is_empty() {
+        buffer::write_bytes(window, at, text);
+        buffer::write_bytes(window, at + text.len(), b"\0");
     }
-    buffer::write_bytes(window, at, text);
-    buffer::write_bytes(window, at + n, b"\0");
 }
 
 // Writes the modules' strings, each with its zero.
@@ -210,16 +204,10 @@ fn write_strings(window: &mut [u8], at: usize, submission: &[u8], layout: Layout
     requires { StringsIn submission.now layout × (at + texts_size (string_lengths layout layout.count) < 2 ^ 64) }
     ensures { window.new ≡ patched window.old at (texts (strings_of submission.now layout layout.count)) }
 {
-    let count = layout.count;
     let mut next = at;
-    let mut i = 0;
-    while i < count {
-        let m = layout.modules[i];
-        let from = m.string.at;
-        let n = m.string.len;
-        let to = from + n;
-        write_text(window, next, &submission[from..to]);
-        next += size::text_size(n);
-        i += 1;
+    for m in &layout.modules[..layout.count] {
+        let text = submission::bytes_of(submission, m.string);
+        write_text(window, next, text);
+        next += size::text_size(m.string.len);
     }
 }

@@ -1,5 +1,5 @@
 -- `block::write::write_entries` meets its contract. The loop's invariant: the entries passed are written, and nothing else.
-use Rattle.std.proofs.Common.{◌≡◌, ◌-◌, ◌+◌, ◌≤◌}
+use Rattle.std.proofs.Common.{◌≡◌, ◌+◌}
 use Rattle.buffer.specs.Patched.{patched}
 use Rattle.number.specs.Number.{word_bytes}
 use Rattle.block.specs.Block.{texts_size, entries, string_lengths}
@@ -8,10 +8,6 @@ use Rattle.block.proofs.write.write_entries.Given as goal
 
 abbrev pub invariant-loop-i : goal.invariant-loop-i
 invariant-loop-i l = record {
-  within : l.i ≤ l.count;
-  next : l.next ≡ l.strings + texts_size (string_lengths l.layout l.i);
-  written : l.window ≡ patched l.initial.window l.at (word_bytes (entries l.strings (entries_of l.layout l.spans l.i)));
+  next : l.next ≡ l.strings + texts_size (string_lengths l.fn.layout l.i);
+  written : l.window ≡ patched l.initial.window l.at (word_bytes (entries l.strings (entries_of l.fn.layout l.fn.spans l.i)));
 }
-
-abbrev pub decreases-loop-i : goal.decreases-loop-i
-decreases-loop-i l = l.count - l.i
