@@ -6,7 +6,7 @@ ghost use Rattle.address.specs.Span.{span_no};
 ghost use Rattle.placement.specs.Free.{max_spans};
 ghost use Rattle.kernel.specs.Kernel.{max_segments};
 ghost use Rattle.decision.specs.PlacedLaws.{Prepared};
-ghost use Rattle.decision.specs.Decided.{kernel_open, room_checks, plan_of, memory_decision};
+ghost use Rattle.decision.specs.Decided.{extent_open, kernel_open, room_checks, plan_of, memory_decision};
 
 use crate::Plan;
 use answer::{Answer, Refusal};
@@ -23,14 +23,16 @@ fn kernel_open(board: Board, kernel: Kernel) -> bool
     requires { kernel.count ≤ max_segments }
     ensures { result ≡ kernel_open board kernel }
 {
-    let mut i = 0;
-    while i < kernel.count {
-        if !board::all_open(board, kernel::extent(kernel, i)) {
-            return false;
-        }
-        i += 1;
-    }
-    true
+    (0..kernel.count).all(|i| extent_open(board, kernel, i))
+}
+
+// Whether every address of one extent is open.
+#[tactic(auto, unfolding(crate::specs::Decided::extent_open))]
+fn extent_open(board: Board, kernel: Kernel, i: usize) -> bool
+    requires { i + 1 ≤ max_segments }
+    ensures { result ≡ extent_open board kernel i }
+{
+    board::all_open(board, kernel::extent(kernel, i))
 }
 
 // The answer where `done` of n modules and the information block found room.
@@ -40,12 +42,12 @@ fn check_room(done: usize, n: usize) -> Answer<()>
     ensures { result ≡ first_of (room_checks done n) tt }
 {
     if done < n {
-        return Err(Refusal::NoRoomForModule(done as u32));
+        Err(Refusal::NoRoomForModule(done as u32))
+    } else if done <= n {
+        Err(Refusal::NoRoomForBlock)
+    } else {
+        Ok(())
     }
-    if done <= n {
-        return Err(Refusal::NoRoomForBlock);
-    }
-    Ok(())
 }
 
 // The plan of n modules and the information block, placed behind the kernel's extents.

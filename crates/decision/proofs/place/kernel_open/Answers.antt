@@ -1,33 +1,28 @@
--- `decision::place::kernel_open` meets its contract. The loop's invariant: the extents passed are open.
-use Rattle.std.proofs.Common.{◌≡◌, ℕ, ◌-◌, Bool, arith, rules, sym, ◌∙◌, below_more}
+-- `decision::place::kernel_open` meets its contract: it says of every extent whether it is open.
+use Rattle.std.proofs.Common.{rules, ◌≡◌, ℕ, zero, suc, ◌+◌, ◌&&◌, Bool, refl, add-zero, ◌∙◌, arith, tests}
+use Rattle.std.proofs.Math.Bool.{and-true, and_assoc}
+use Rattle.std.proofs.lemmas.Iterator.{YieldsList-from_range}
+use Rattle.std.proofs.lemmas.Iterator.Search.{all_from_yields_List}
+use Rattle.std.specs.List.{list_all, range_with_len}
 use Rattle.laws.specs.Tests.{all_from}
-use Rattle.laws.proofs.TestLaws.{all_intro, all_not}
-use Rattle.address.specs.declared.Span.{Span}
-use Rattle.kernel.specs.declared.Kernel.{Kernel}
-use Rattle.kernel.specs.Kernel.{extent_no}
-use Rattle.board.specs.declared.Board.{Board}
-use Rattle.board.specs.Open.{is_open}
-use Rattle.decision.specs.Decided.{extent_open, kernel_open}
+use Rattle.decision.specs.Decided.{kernel_open, extent_open}
 use Rattle.decision.proofs.place.kernel_open.Goals as goal
 
--- what a turn learns of the extent i
-known : (b : Board) (k : Kernel) (i : ℕ) (s : Span) (r : Bool) → s ≡ extent_no k i → r ≡ all_from (is_open b) s.start.0 (s.end.0 - s.start.0) → extent_open b k i ≡ r
-unfolding extent_open
-known b k i s r e f = rw (f, e)
+-- a range whose numbers all pass, from its first number on
+all_front : (f : ℕ → Bool) (a n : ℕ) → f a && all_from f (a + 1) n ≡ all_from f a (suc n)
+unfolding all_from
+all_front f a zero = rw add-zero (and-true (f a))
+all_front f a (suc n) =
+    let e : a + 1 + n ≡ a + suc n = omega arith in
+    rw (e, ← and_assoc, all_front f a n)
 
-pub returns-then-not-all_open : goal.returns-then-not-all_open
-unfolding kernel_open
-returns-then-not-all_open c =
-    let e = known c.args.board c.args.kernel c.loop-i.i c.extent.result c.all_open.result c.extent.ensures c.all_open.ensures in
-    sym (all_not (extent_open c.args.board c.args.kernel) 0 c.args.kernel.count c.loop-i.i (omega arith) (omega arith) (e ∙ c.if-not-all_open.true))
-
-pub loop-i-preserved : goal.loop-i-preserved
-loop-i-preserved c = (
-  search rules,
-  below_more _ _ c.loop-i.invariant.1
-      (known c.args.board c.args.kernel c.loop-i.i c.extent.result c.all_open.result c.extent.ensures c.all_open.ensures ∙ c.if-not-all_open.false),
-)
+range_all : (f : ℕ → Bool) (a n : ℕ) → list_all f (range_with_len a n) ≡ all_from f a n
+unfolding all_from
+range_all f a zero = refl
+range_all f a (suc n) = rw (range_all f (a + 1) n) (all_front f a n)
 
 pub returns : goal.returns
 unfolding kernel_open
-returns c = sym (all_intro _ 0 _ (λ j l m. c.loop-i.invariant.1 j (omega arith)))
+returns c =
+    all_from_yields_List (extent_open c.args.board c.args.kernel) _ _ _ c.all.ensures.ran (YieldsList-from_range 0 c.args.kernel.count c.args.kernel.count refl (omega arith)) (λ i b q k. search (rules, tests))
+    ∙ range_all (extent_open c.args.board c.args.kernel) 0 c.args.kernel.count
