@@ -2,9 +2,10 @@
 -- Assumes nothing.
 use mathlib.Core.Path.{◌≡◌, refl, ap, ◌∙◌}
 use mathlib.Core.List.{List, [], ◌∷◌, ◌++◌}
-use Prim.Native.Nat.{ℕ, ◌+◌, ◌-◌}
+use Prim.Native.Nat.{ℕ, ◌+◌, ◌-◌, ◌<◌}
 use native.Mathlib.Numerals.{add-one}
-use lib.ListN.{length}
+use lib.ListN.{length, take, get_or}
+use lib.Seq.{get_or-take}
 use Rattle.laws.specs.Table.{listed}
 use Rattle.buffer.specs.Patched.{patched, zeros}
 use Rattle.buffer.specs.PatchedLaws.{length-patched, patched-append}
@@ -13,10 +14,11 @@ use Rattle.buffer.specs.WritesLaws.{written_append}
 use Rattle.address.specs.declared.Span.{Span}
 use Rattle.address.specs.Span.{span_no}
 use Rattle.submission.specs.declared.Layout.{Layout}
-use Rattle.submission.specs.Layout.{bytes_of, module_no}
+use Rattle.submission.specs.declared.Module.{Module}
+use Rattle.submission.specs.Layout.{no_module, bytes_of}
 use Rattle.command_line.specs.CommandLine.{command_line}
 use Rattle.kernel.specs.declared.Kernel.{Kernel}
-use Rattle.kernel.specs.Kernel.{segment_no}
+use Rattle.kernel.specs.Kernel.{no_segment}
 use Rattle.memory_map.specs.declared.ParsedMap.{ParsedMap}
 use Rattle.memory_map.specs.Parse.{parsed_map}
 use Rattle.usable.specs.Sizes.{mem_lower, mem_upper}
@@ -44,23 +46,23 @@ pub filled : (w u v : List ℕ) (at : ℕ) (bytes : List ℕ) (count : ℕ) → 
 filled w u v at bytes count e f = f ∙ ap (λ (l : List ℕ). patched l (at + length bytes) (zeros count)) e ∙ patched-append w at bytes (zeros count)
 
 -- a module more
-pub module_written : (f : ℕ) (s : List ℕ) (l : Layout) (spans : List Span) (d w v : List ℕ) (i at : ℕ) (bytes : List ℕ)
-    → w ≡ written d (listed (module_write f s l spans) i) → bytes ≡ bytes_of s (module_no l i).«data» → at ≡ (span_no spans i).start.0 - f
+pub module_written : (f : ℕ) (s : List ℕ) (l : Layout) (spans : List Span) (n : ℕ) (d w v : List ℕ) (i at : ℕ) (bytes : List ℕ) (m : Module) (q : Span) → i < n
+    → m ≡ get_or (take n l.modules) i no_module → q ≡ span_no spans i
+    → w ≡ written d (listed (module_write f s l spans) i) → bytes ≡ bytes_of s m.«data» → at ≡ q.start.0 - f
     → v ≡ patched w at bytes
     → v ≡ written d (listed (module_write f s l spans) (i + 1))
 unfolding module_write
-module_written f s l spans d w v i at bytes e q p h = one_written d w v (module_write f s l spans) i at bytes e p q h
+module_written f s l spans n d w v i at bytes m q u g p e b a h =
+    one_written d w v (module_write f s l spans) i at bytes e (a ∙ rw p refl) (b ∙ rw (g, get_or-take) refl) h
 
--- a segment: its load bytes, and zeros behind them
-pub segment_written : (f : ℕ) (image : List ℕ) (k : Kernel) (i : ℕ) (w v : List ℕ) (len at count : ℕ) (bytes : List ℕ)
-    → len ≡ (segment_no k i).load_end.0 - (segment_no k i).start.0
-    → bytes ≡ bytes_of image (record { at = (segment_no k i).offset.0; len = len })
-    → at ≡ (segment_no k i).start.0 - f
-    → count ≡ (segment_no k i).extent_end.0 - (segment_no k i).load_end.0
-    → v ≡ patched w at (bytes ++ zeros count)
-    → v ≡ patched w (segment_write f image k i).at (segment_write f image k i).bytes
+-- a segment more: its load bytes, and zeros behind them
+pub segment_written : (f : ℕ) (image : List ℕ) (k : Kernel) (n : ℕ) (d w v : List ℕ) (i : ℕ) → i < n
+    → w ≡ written d (listed (segment_write f image k) i)
+    → (let s = get_or (take n k.segments) i no_segment in
+    v ≡ patched w (s.start.0 - f) (bytes_of image (record { at = s.offset.0; len = s.load_end.0 - s.start.0 }) ++ zeros (s.extent_end.0 - s.load_end.0)))
+    → v ≡ written d (listed (segment_write f image k) (i + 1))
 unfolding segment_write
-segment_written f image k i w v len at count bytes l b p n h = rw (← l, ← b, ← p, ← n) h
+segment_written f image k n d w v i l e h = one_written d w v (segment_write f image k) i _ _ e refl refl (rw get_or-take at h)
 
 -- the information block, as its parts are read
 pub block_room : (l : Layout) (map_length start size : ℕ) (line text : List ℕ) (at place : ℕ) → line ≡ text → at ≡ place → Room l map_length (length text) start place size → Room l map_length (length line) start at size

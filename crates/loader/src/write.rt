@@ -4,6 +4,7 @@ ghost use Rattle.laws.specs.Table.{listed};
 ghost use Rattle.buffer.specs.Patched.{patched, zeros};
 ghost use Rattle.buffer.specs.Writes.{written};
 ghost use Rattle.submission.specs.Format.{max_modules};
+ghost use Rattle.submission.specs.Layout.{bytes_of};
 ghost use Rattle.command_line.specs.CommandLine.{command_line};
 ghost use Rattle.block.specs.Block.{block_of};
 ghost use Rattle.block.specs.Writing.{SpansLow, StringsIn, Room};
@@ -14,7 +15,7 @@ ghost use Rattle.loader.specs.Ready.{PlanOfLoad};
 
 use address::{PhysAddr, Span};
 use decision::Plan;
-use kernel::Kernel;
+use kernel::{Kernel, Segment};
 use submission::{Layout, Part};
 
 // Writes everything of a load: the kernel, the modules, and the information block.
@@ -74,19 +75,15 @@ fn write_kernel(window: &mut [u8], base: PhysAddr, image: &[u8], kernel: Kernel)
     requires { kernel.count ≤ max_segments }
     ensures { window.new ≡ written window.old (listed (segment_write base.0 image.now kernel) kernel.count) }
 {
-    let mut i = 0;
-    while i < kernel.count {
-        write_segment(window, base, image, kernel, i);
-        i += 1;
+    for segment in &kernel.segments[..kernel.count] {
+        write_segment(window, base, image, segment);
     }
 }
 
 // Writes one segment.
-fn write_segment(window: &mut [u8], base: PhysAddr, image: &[u8], kernel: Kernel, i: usize)
-    requires { i + 1 ≤ max_segments }
-    ensures { window.new ≡ patched window.old (segment_write base.0 image.now kernel i).at (segment_write base.0 image.now kernel i).bytes }
+fn write_segment(window: &mut [u8], base: PhysAddr, image: &[u8], segment: &Segment)
+    ensures { window.new ≡ patched window.old (segment.now.start.0 - base.0) (bytes_of image.now (record { at = segment.now.offset.0; len = segment.now.load_end.0 - segment.now.start.0 }) ++ zeros (segment.now.extent_end.0 - segment.now.load_end.0)) }
 {
-    let segment = kernel.segments[i];
     let part = Part {
         at: segment.offset.0,
         len: segment.load_end.offset_from(segment.start),
@@ -122,12 +119,8 @@ fn write_modules(
     requires { layout.count ≤ max_modules }
     ensures { window.new ≡ written window.old (listed (module_write base.0 submission.now layout spans) layout.count) }
 {
-    let mut i = 0;
-    while i < layout.count {
-        let module = layout.modules[i];
-        let span = spans[i];
+    for (module, span) in layout.modules[..layout.count].iter().zip(&spans) {
         let data = submission::bytes_of(submission, module.data);
         buffer::write_bytes(window, span.start.offset_from(base), data);
-        i += 1;
     }
 }

@@ -1,13 +1,19 @@
 -- `loader::write::write_modules` meets its contract.
-use Rattle.std.proofs.Common.{rules, arith}
+use Rattle.std.proofs.Common.{rules, ◌≡◌, length, take, length-append, arith}
+use Rattle.std.proofs.lemmas.Slice.Zip.{zip_turn, zip_end}
 use Rattle.loader.proofs.TurnLaws.{none_written, module_written}
 use Rattle.loader.proofs.write.write_modules.Goals as goal
 
-pub loop-i-init : goal.loop-i-init
-loop-i-init c = record { within = search rules; made = none_written _ _ }
+pub loop-module-init : goal.loop-module-init
+loop-module-init c = none_written _ _
 
-pub loop-i-preserved : goal.loop-i-preserved
-loop-i-preserved c = record {
-  within = omega arith;
-  made = module_written _ _ _ _ _ _ _ _ _ _ c.loop-i.invariant.made c.bytes_of-data.ensures c.offset_from.ensures c.write_bytes.ensures;
-}
+pub loop-module-preserved : goal.loop-module-preserved
+loop-module-preserved c =
+    let t = zip_turn (take c.args.layout.count c.args.layout.modules) c.args.spans _ _ _ c.next.new.self _ (search rules) (search rules) c.loop-module.yielded_by _ c.in-Some.is c.next.ensures.steps in
+    rw length-append
+    (module_written c.args.base.0 c.args.submission.now c.args.layout c.args.spans c.args.layout.count _ _ _ _ _ _ _ _ (omega arith) (t.2 _) (t.3 _) c.loop-module.invariant c.bytes_of-data.ensures c.offset_from.ensures c.write_bytes.ensures)
+
+pub returns : goal.returns
+returns c =
+    let e : length c.loop-module.yielded ≡ c.args.layout.count = omega (arith, zip_end (take c.args.layout.count c.args.layout.modules) c.args.spans _ _ _ c.next.new.self _ (search rules) (search rules) c.loop-module.yielded_by c.in-None.is c.next.ensures.steps) in
+    rw e at c.loop-module.invariant
