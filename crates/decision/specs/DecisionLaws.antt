@@ -11,7 +11,7 @@ use Rattle.std.specs.Bool.{⊤}
 use Rattle.std.specs.Result.{result_and}
 use Rattle.std.specs.Prelude.{Ok, Err, ◌≡◌, refl, true, false, ℕ, ◌+◌, ◌^◌, ◌≤◌, ◌<◌}
 use Rattle.std.proofs.Math.Path.{sym, ap}
-use Rattle.std.proofs.Common.{◌∙◌, arith}
+use Rattle.std.proofs.Common.{arith}
 use mathlib.Core.List.{List, ◌++◌, append_assoc}
 use Rattle.std.proofs.Math.ListN.{length}
 use Rattle.laws.specs.Checks.{first_of, passes}

@@ -4,7 +4,7 @@
 -- Assumes nothing.
 use Rattle.std.specs.Prelude.{Ok, Err, ◌≡◌, true, false, not, ℕ, ◌+◌, ◌≤◌, ltb}
 use Rattle.std.proofs.Math.Path.{refl}
-use Rattle.std.proofs.Common.{sym, ap, ◌∙◌}
+use Rattle.std.proofs.Common.{sym, ◌∙◌}
 use mathlib.Core.List.{[], append-nil}
 use borrow.Author.Tests.{ltb-false, not-false}
 use Rattle.laws.specs.Checks.{first_of, passes}

@@ -3,7 +3,7 @@
 use Rattle.std.proofs.Common.{arith, sym, ◌∙◌}
 use Rattle.std.proofs.lemmas.Result.{err_from_is_err_and}
 use Rattle.decision.specs.Lent.{Lent, lent}
-use Rattle.decision.specs.DecisionLaws.{submission_refused, operator_refused, window_refused, map_refused, image_refused, lent_passed, prepared, block_small, Stages, stages_known, board_is, block_length_is, prepared_is, decision_is}
+use Rattle.decision.specs.DecisionLaws.{submission_refused, operator_refused, window_refused, map_refused, image_refused, lent_passed, prepared, block_small, stages_known, board_is, block_length_is, prepared_is, decision_is}
 use Rattle.decision.proofs.decide.Goals as goal
 
 pub returns-in_err-layout : goal.returns-in_err-layout

@@ -1,10 +1,9 @@
 -- `decision::place::decide_memory` meets its contract: each return is one case of the last two stages.
 -- Assumes nothing.
-use Rattle.std.proofs.Common.{◌≡◌, true, arith, sym, ◌∙◌}
+use Rattle.std.proofs.Common.{◌≡◌, arith, sym, ◌∙◌}
 use Rattle.std.proofs.lemmas.Result.{err_from_is_err_and}
-use Rattle.laws.specs.Checks.{passes}
 use Rattle.laws.proofs.CheckLaws.{told, ok_passed}
-use Rattle.decision.specs.Decided.{kernel_open, room_checks, placed_by}
+use Rattle.decision.specs.Decided.{room_checks, placed_by}
 use Rattle.decision.specs.PlacedLaws.{items_ready, span_below}
 use Rattle.decision.specs.StageLaws.{placed_is, all_placed, decided_closed, decided_no_room, decided_load}
 use Rattle.decision.proofs.place.decide_memory.Goals as goal
