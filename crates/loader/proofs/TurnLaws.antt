@@ -16,15 +16,9 @@ use Rattle.address.specs.Span.{span_no}
 use Rattle.submission.specs.declared.Layout.{Layout}
 use Rattle.submission.specs.declared.Module.{Module}
 use Rattle.submission.specs.Layout.{no_module, bytes_of}
-use Rattle.command_line.specs.CommandLine.{command_line}
 use Rattle.kernel.specs.declared.Kernel.{Kernel}
 use Rattle.kernel.specs.Kernel.{no_segment}
-use Rattle.memory_map.specs.declared.ParsedMap.{ParsedMap}
-use Rattle.memory_map.specs.Parse.{parsed_map}
-use Rattle.usable.specs.Sizes.{mem_lower, mem_upper}
-use Rattle.block.specs.Block.{contents_of, block_of}
-use Rattle.block.specs.Writing.{Room}
-use Rattle.loader.specs.Memory.{segment_write, module_write, contents_for}
+use Rattle.loader.specs.Memory.{segment_write, module_write}
 
 -- no write yet
 pub none_written : (d : List ℕ) (f : ℕ → Write) → d ≡ written d (listed f 0)
@@ -63,13 +57,3 @@ pub segment_written : (f : ℕ) (image : List ℕ) (k : Kernel) (n : ℕ) (d w v
     → v ≡ written d (listed (segment_write f image k) (i + 1))
 unfolding segment_write
 segment_written f image k n d w v i l e h = one_written d w v (segment_write f image k) i _ _ e refl refl (rw get_or-take at h)
-
--- the information block, as its parts are read
-pub block_room : (l : Layout) (map_length start size : ℕ) (line text : List ℕ) (at place : ℕ) → line ≡ text → at ≡ place → Room l map_length (length text) start place size → Room l map_length (length line) start at size
-block_room l map_length start size line text at place e f r = record { low = rw e r.low; inside = rw (e, f) r.inside }
-
-pub block_written : (w v s operator m : List ℕ) (l : Layout) (spans : List Span) (start place : ℕ) (line : List ℕ) (p : ParsedMap) (lower upper at : ℕ)
-    → line ≡ command_line operator s → p ≡ parsed_map m → lower ≡ mem_lower p.map → upper ≡ mem_upper p.map → at ≡ place
-    → v ≡ patched w at (block_of (contents_of s l spans m line start lower upper))
-    → v ≡ patched w place (block_of (contents_for s operator m l spans start))
-block_written w v s operator m l spans start place line p lower upper at e f g h k z = z ∙ rw (e, g, h, f, k) refl

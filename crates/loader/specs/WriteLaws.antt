@@ -4,31 +4,31 @@
 --     all_written                                       the three writers together make the writes of a load
 --     decision_loaded, memory_loaded, memory_refused    a load and a refusal, as the decision hands them over
 -- Assumes nothing.
-use Rattle.std.specs.Prelude.{◌≡◌, List, [], ◌∷◌, ◌++◌, ℕ, ◌+◌, ◌-◌, ◌^◌, ◌≤◌, ◌<◌, length}
-use Rattle.std.proofs.Math.Path.{refl, sym}
+use Rattle.std.specs.Prelude.{Ok, Err, ◌≡◌, List, [], ◌∷◌, ◌++◌, ℕ, ◌+◌, ◌-◌, ◌^◌, ◌≤◌, ◌<◌, length}
+use Rattle.std.proofs.Math.Path.{refl}
 use Rattle.std.proofs.Common.{ap, ◌∙◌, arith}
 use Rattle.std.proofs.Math.Bool.{true, false}
 use Rattle.laws.specs.Table.{listed}
+use Rattle.laws.specs.Checks.{passes}
+use Rattle.laws.proofs.CheckLaws.{ok_passed, err_failed}
 use Rattle.buffer.specs.Patched.{patched}
 use Rattle.buffer.specs.Writes.{written}
 use Rattle.buffer.specs.WritesLaws.{written_append}
 use Rattle.address.specs.declared.Span.{Span}
 use Rattle.address.specs.Span.{span_no}
-use Rattle.answer.specs.Answer.{is_load}
+use Rattle.answer.specs.declared.Refusal.{Refusal}
 use Rattle.submission.specs.declared.Layout.{Layout}
-use Rattle.submission.specs.declared.ParsedSubmission.{ParsedSubmission}
 use Rattle.submission.specs.Format.{module_count, max_modules}
 use Rattle.submission.specs.Layout.{bytes_of}
 use Rattle.submission.specs.FormatLaws.{layout_count, module_at}
 use Rattle.submission.specs.Parse.{parsed_submission}
-use Rattle.submission.specs.RuleLaws.{parsed_layout, string_inside}
+use Rattle.submission.specs.RuleLaws.{parsed_good, string_inside}
 use Rattle.kernel.specs.Kernel.{max_segments}
 use Rattle.decision.specs.declared.Plan.{Plan}
 use Rattle.decision.specs.Lent.{Lent}
 use Rattle.decision.specs.Read.{layout_in, kernel_in, line_in}
-use Rattle.decision.specs.declared.Decision.{Decision}
-use Rattle.decision.specs.Decided.{plan_of, decided_by}
-use Rattle.decision.specs.Decision.{answer_of, plan_in, decision_of}
+use Rattle.decision.specs.Decided.{plan_of}
+use Rattle.decision.specs.Decision.{checks, plan_in, decision_of}
 use Rattle.decision.specs.DecisionLaws.{prepared}
 use Rattle.block.specs.Block.{block_of}
 use Rattle.block.specs.Writing.{SpansLow, StringsIn, Room}
@@ -65,9 +65,6 @@ module _ (x : Lent) (h : Loads x) where
   -- the layout read again is the load's
   pub layout_read : parsed_submission x.submission ≡ Ok (layout_in x)
   layout_read = parsed_good x.submission h.passed.rules
-
-  pub map_read : parsed_map x.map ≡ Ok (map_of x.map)
-  map_read = parsed_good_map x.map h.passed.map
 
 -- the plan and the layout as they are handed over
 module _ (x : Lent) (h : Loads x) (p : Plan) (l : Layout) (pe : p ≡ plan_in x) (le : l ≡ layout_in x) where

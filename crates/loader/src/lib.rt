@@ -6,7 +6,8 @@ ghost use Rattle.decision.specs.Lent.{lent};
 ghost use Rattle.decision.specs.Decision.{decision_of};
 ghost use Rattle.loader.specs.Memory.{memory_after};
 
-use decision::Decision;
+use answer::Answer;
+use decision::Plan;
 
 mod write;
 
@@ -17,15 +18,11 @@ pub fn load<'a>(
     map: &[u8],
     window: &mut [u8],
     first: u32,
-) -> Decision
+) -> Answer<Plan>
     ensures value { result ≡ decision_of (lent submission.now operator.now map.now first (length window.old)) }
     ensures window_after { window.new ≡ memory_after (lent submission.now operator.now map.now first (length window.old)) window.old }
 {
-    let decision = decision::decide(submission, operator, map, first, window.len());
-    let verdict = decision.answer;
-    if answer::is_load(verdict) {
-        let plan = decision.plan;
-        write::write_load(window, first, submission, operator, map, plan);
-    }
-    decision
+    let plan = decision::decide(submission, operator, map, first, window.len())?;
+    write::write_load(window, first, submission, operator, map, plan);
+    Ok(plan)
 }

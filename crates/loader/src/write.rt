@@ -1,6 +1,7 @@
 // Writing a load into the window, by its plan.
-ghost use Rattle.std.specs.Prelude.{◌≡◌, ◌++◌, ◌+◌, ◌-◌, ◌≤◌, length};
+ghost use Rattle.std.specs.Prelude.{◌≡◌, false, ◌++◌, ◌+◌, ◌-◌, ◌≤◌, length};
 ghost use Rattle.laws.specs.Table.{listed};
+ghost use Rattle.memory_map.specs.Map.{bad_map};
 ghost use Rattle.buffer.specs.Patched.{patched, zeros};
 ghost use Rattle.buffer.specs.Writes.{written};
 ghost use Rattle.submission.specs.Format.{max_modules};
@@ -31,8 +32,7 @@ pub(crate) fn write_load<'a>(
     ensures { window.new ≡ written window.old (writes_of (lent submission.now operator.now map.now first (length window.old))) }
 {
     let base = PhysAddr(first as u64);
-    let read = submission::parse(submission);
-    let layout = read.layout;
+    let layout = submission::parse(submission).unwrap();
     let kernel = plan.kernel;
     let modules = plan.modules;
     let block = plan.block;
@@ -56,12 +56,11 @@ fn write_block<'a>(
     modules: [Span; submission::MAX_MODULES],
     start: PhysAddr,
 )
-    requires { SpansLow layout modules × StringsIn submission.now layout × Room layout (length map.now) (length (command_line operator.now submission.now)) start.0 (start.0 - base.0) (length window.old) }
+    requires { (bad_map map.now ≡ false) × SpansLow layout modules × StringsIn submission.now layout × Room layout (length map.now) (length (command_line operator.now submission.now)) start.0 (start.0 - base.0) (length window.old) }
     ensures { window.new ≡ patched window.old (start.0 - base.0) (block_of (contents_for submission.now operator.now map.now layout modules start.0)) }
 {
     let line = command_line::in_force(operator, submission);
-    let parsed = memory_map::parse(map);
-    let pairs = parsed.map;
+    let pairs = memory_map::parse(map).unwrap();
     let lower = usable::sizes::mem_lower(pairs);
     let upper = usable::sizes::mem_upper(pairs);
     let at = start.offset_from(base);
