@@ -1,12 +1,15 @@
 -- Rounding up gives the lowest multiple of the boundary that is not below the address, for every boundary above 0.
 --     Rounded, rounded    what rounding gives, and that it does
+--     next_multiple       the library's word for the same number
 --     boundary_some       every boundary is above 0 and at most a page
 -- Assumes nothing.
 use Rattle.std.specs.Prelude.{◌≡◌, refl, Bool, ℕ, ◌+◌, ◌-◌, ◌*◌, ◌/◌, ◌%◌, ◌≤◌, ◌<◌, eqb}
 use Rattle.std.proofs.Math.Path.{ap}
 use Rattle.std.proofs.Common.{◌∙◌, lt_of_mul-lt-mul_right, mul-le-mul_right, suc-mul}
 use Rattle.std.proofs.Math.Bool.{true, false}
-use Rattle.std.proofs.Math.Nat.{div-add-mod', mod-lt, mod_self, mul-add-mod_self_right}
+use Rattle.std.proofs.Math.Nat.{div-add-mod', mod-lt, mod_self, mod-eq_of_lt, mul-add-mod_self_right}
+use Rattle.std.specs.Int.{next_multiple_of}
+use Rattle.std.proofs.lemmas.Bool.Decides.{nat_tests}
 use native.Mathlib.Omega.{arith}
 use borrow.Author.Tests.{eqb-true, eqb-false}
 use Rattle.address.specs.Address.{page, boundary_of, round_up}
@@ -45,6 +48,10 @@ module _ (a b : ℕ) (pos : 0 < b) where
 
 pub rounded : (a b : ℕ) → 0 < b → Rounded a b (round_up a b)
 rounded a b pos = by_test a b pos (eqb (a % b) 0) refl
+
+pub next_multiple : (a b : ℕ) → 0 < b → next_multiple_of a b ≡ round_up a b
+unfolding round_up
+next_multiple a b pos = grind (arith, nat_tests, mod-lt, mod_self, mod-eq_of_lt)
 
 pub boundary_some : (pages : Bool) → (0 < boundary_of pages) × (boundary_of pages ≤ page)
 boundary_some true = (omega arith, omega arith)

@@ -7,18 +7,15 @@ ghost use Rattle.edge.specs.Edge.{nearest, span_edge};
 use address::{PhysAddr, Span};
 
 // v where it lies past x and before e, else e.
+#[tactic(auto, unfolding(crate::specs::Edge::nearest))]
 pub fn nearer(x: PhysAddr, e: PhysAddr, v: PhysAddr) -> PhysAddr
     ensures { result.0 ≡ nearest x.0 e.0 v.0 }
 {
-    if x.0 < v.0 {
-        if v.0 < e.0 {
-            return v;
-        }
-    }
-    e
+    if x < v && v < e { v } else { e }
 }
 
 // The nearest edge of a span past x and before e, else e.
+#[tactic(auto, unfolding(crate::specs::Edge::span_edge))]
 pub fn span_edge(span: Span, x: PhysAddr, e: PhysAddr) -> PhysAddr
     ensures { result.0 ≡ span_edge span.start.0 span.end.0 x.0 e.0 }
 {
