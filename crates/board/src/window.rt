@@ -13,7 +13,7 @@ pub fn check_window(first: u32, len: usize) -> Answer<Span>
     ensures { result ≡ first_of (window_checks first len) (window_span first len) }
 {
     let n = len as u64;
-    if PhysAddr::TOP < n {
+    if PhysAddr::TOP.0 < n {
         return Err(Refusal::WindowPastTop);
     }
     let start = PhysAddr(first as u64);

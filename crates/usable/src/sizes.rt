@@ -45,5 +45,5 @@ pub fn mem_lower(map: MemoryMap) -> u32
 pub fn mem_upper(map: MemoryMap) -> u32
     ensures { result ≡ mem_upper map }
 {
-    (usable_run(map, PhysAddr(PhysAddr::FLOOR)) / KIB) as u32
+    (usable_run(map, PhysAddr::FLOOR) / KIB) as u32
 }
