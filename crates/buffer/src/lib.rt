@@ -6,13 +6,13 @@ ghost use Rattle.std.specs.Prelude.{◌≡◌, ◌-◌, min, length};
 ghost use Rattle.buffer.specs.Patched.{patched, zeros};
 
 // Writes the bytes of src into dst from the offset `at` on.
+#[tactic(auto, using(crate::proofs::PartLaws::none_written, crate::proofs::PartLaws::part_written))]
 pub fn write_bytes(dst: &mut [u8], at: usize, src: &[u8])
     ensures { dst.new ≡ patched dst.old at src.now }
 {
     let n = room(dst.len(), at, src.len());
     if 0 < n {
-        let end = at + n;
-        copy(&src[..n], &mut dst[at..end]);
+        copy(&src[..n], &mut dst[at..at + n]);
     }
 }
 
@@ -23,8 +23,7 @@ pub fn write_zeros(dst: &mut [u8], at: usize, count: usize)
 {
     let count = room(dst.len(), at, count);
     if 0 < count {
-        let end = at + count;
-        clear(&mut dst[at..end]);
+        dst[at..at + count].fill(0);
     }
 }
 
@@ -32,32 +31,15 @@ pub fn write_zeros(dst: &mut [u8], at: usize, count: usize)
 fn room(len: usize, at: usize, count: usize) -> usize
     ensures { result ≡ min count (len - at) }
 {
-    if len <= at {
-        return 0;
-    }
-    if len - at < count {
-        return len - at;
-    }
-    count
+    count.min(len.saturating_sub(at))
 }
 
-// Copies the bytes of src to the start of dst, as many as have room.
+// Copies the bytes of src over those of dst.
 fn copy(src: &[u8], dst: &mut [u8])
-    ensures { dst.new ≡ patched dst.old 0 src.now }
+    requires { length dst.old ≡ length src.now }
+    ensures { dst.new ≡ src.now }
 {
-    let n = room(dst.len(), 0, src.len());
-    for i in 0..n {
-        dst[i] = src[i];
-    }
-}
-
-// Makes every byte zero.
-fn clear(dst: &mut [u8])
-    ensures { dst.new ≡ zeros (length dst.old) }
-{
-    let mut i = 0;
-    while i < dst.len() {
-        dst[i] = 0;
-        i += 1;
+    for (i, d) in dst.iter_mut().enumerate() {
+        *d = src[i];
     }
 }
