@@ -1,41 +1,41 @@
--- One turn of each loop: a byte more read, a word more written; and a byte past the end.
+-- One turn of each loop: a byte more read, a word more written.
 -- Assumes nothing.
-use mathlib.Core.Path.{◌≡◌, refl, sym, ap, ◌∙◌}
+use mathlib.Core.Path.{◌≡◌, refl, ap, ◌∙◌}
 use mathlib.Core.List.{List, [], ◌∷◌, ◌++◌, append_assoc, append-nil}
 use Prim.Native.Nat.{ℕ, zero, suc, ◌+◌, ◌*◌, ◌-◌, ◌^◌, ◌≤◌, ◌<◌}
 use native.Mathlib.Numerals.{add-one}
 use native.Mathlib.Omega.{arith}
-use lib.ListN.{length, take, drop, get_or, get_or-eq_default}
+use lib.ListN.{length, take, drop, get_or}
 use lib.Seq.{length-take-le}
 use Rattle.buffer.specs.Patched.{patched}
 use Rattle.buffer.specs.PatchedLaws.{patched-append}
 use Rattle.number.specs.Number.{number, number_bytes, word_bytes}
 use Rattle.number.specs.NumberLaws.{number_more, number_fits, length_word_bytes, Bytes, bytes_drop}
 
--- the read goes from the highest byte to the lowest; `value` is what the last i of the bytes make
-module _ (s : List ℕ) (at width i value : ℕ) (e : value ≡ number i (drop (at + (width - i)) s)) where
-  pub read_more : i < width → value * 256 + get_or s (at + (width - (i + 1))) 0 ≡ number (i + 1) (drop (at + (width - (i + 1))) s)
-  read_more h =
-      let m : suc (at + (width - (i + 1))) ≡ at + (width - i) = omega arith in
-      rw (add-one i, number_more, ← add-one i, m, e) (omega arith)
+-- the read goes from the highest byte to the lowest; `value` is what the bytes from the place p on make
+module _ (s : List ℕ) (at width p value : ℕ) (e : value ≡ number (width - p) (drop (at + p) s)) where
+  pub read_more : 1 ≤ p → p ≤ width → value * 256 + get_or s (at + (p - 1)) 0 ≡ number (width - (p - 1)) (drop (at + (p - 1)) s)
+  read_more h l =
+      let n : width - (p - 1) ≡ suc (width - p) = omega arith in
+      let m : suc (at + (p - 1)) ≡ at + p = omega arith in
+      rw (n, number_more, m, e) (omega arith)
 
   -- with a byte to come, the value has room for one more
-  pub read_room : Bytes s → width ≤ 8 → i < width → value < 2 ^ 56
-  read_room b h l = rw e (number_fits i 7 (drop (at + (width - i)) s) (omega arith) (bytes_drop (at + (width - i)) s b))
+  pub read_room : Bytes s → width ≤ 8 → 1 ≤ p → value < 2 ^ 56
+  read_room b h l = rw e (number_fits (width - p) 7 (drop (at + p) s) (omega arith) (bytes_drop (at + p) s b))
 
-  pub read_all : i ≤ width → width ≤ i → value ≡ number width (drop at s)
-  read_all h l =
-      let n : i ≡ width = omega arith in
-      let m : at + (width - i) ≡ at = omega arith in
-      rw (m, n) at e
+  pub read_all : p ≤ 0 → value ≡ number width (drop at s)
+  read_all h =
+      let n : width - p ≡ width = omega arith in
+      let m : at + p ≡ at = omega arith in
+      rw (n, m) at e
 
--- past the end a list has its default
-pub byte_past : (s : List ℕ) (i : ℕ) → length s ≤ i → 0 ≡ get_or s i 0
-byte_past s i h = sym (get_or-eq_default s 0 h)
-
-pub read_none : (s : List ℕ) → 0 ≡ number 0 s
+-- no byte is read yet
+pub read_none : (w : ℕ) (s : List ℕ) → 0 ≡ number (w - w) s
 unfolding number
-read_none s = refl
+read_none w s =
+    let z : w - w ≡ 0 = omega arith in
+    rw z refl
 
 words_more : (ws : List ℕ) (i : ℕ) → i < length ws → word_bytes (take (suc i) ws) ≡ word_bytes (take i ws) ++ number_bytes 4 (get_or ws i 0)
 unfolding word_bytes

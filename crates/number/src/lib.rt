@@ -10,11 +10,10 @@ fn read_le(s: &[u8], at: usize, width: usize) -> u64
     requires { width ≤ 8 }
     ensures { (result ≡ number_at width s.now at) × (result < 2 ^ (8 * width)) }
 {
-    let mut value: u64 = 0;
-    let mut i = 0;
-    while i < width {
-        i += 1;
-        value = value * 256 + byte_at(s, at, width - i);
+    // A loop, since nothing bounds the sum in a fold.
+    let mut value = 0;
+    for place in (0..width).rev() {
+        value = value * 256 + byte_at(s, at, place);
     }
     value
 }
@@ -23,21 +22,12 @@ fn read_le(s: &[u8], at: usize, width: usize) -> u64
 fn byte_at(s: &[u8], at: usize, place: usize) -> u64
     ensures { (result ≡ get_or s.now (at + place) 0) × (result < 256) }
 {
-    if s.len() <= at {
-        return 0;
-    }
-    if s.len() - at <= place {
-        return 0;
-    }
-    wide(s[at + place])
+    s.get(at..)
+        .and_then(|rest| rest.get(place))
+        .map_or(0, |byte| u64::from(*byte))
 }
 
-// A byte as a number.
-fn wide(x: u8) -> u64
-    ensures { (result ≡ x) × (result < 256) }
-{
-    x as u64
-}
+// The four reads below share one body; a trait with the width as its constant needs an impl for each, which is longer than its call.
 
 // The number of one byte at the offset `at`.
 pub fn read_u8(s: &[u8], at: usize) -> u8
@@ -72,16 +62,7 @@ pub fn read_u64(s: &[u8], at: usize) -> u64
 pub fn write_u32(dst: &mut [u8], at: usize, x: u32)
     ensures { dst.new ≡ patched dst.old at (number_bytes 4 x) }
 {
-    let x1 = x / 256;
-    let x2 = x1 / 256;
-    let x3 = x2 / 256;
-    let bytes = [
-        (x % 256) as u8,
-        (x1 % 256) as u8,
-        (x2 % 256) as u8,
-        (x3 % 256) as u8,
-    ];
-    buffer::write_bytes(dst, at, &bytes);
+    buffer::write_bytes(dst, at, &x.to_le_bytes());
 }
 
 // Writes a row of words into dst from the offset `at` on, four bytes each; what would fall past the end is left out.
@@ -91,9 +72,7 @@ pub fn write_words(dst: &mut [u8], at: usize, words: &[u32])
     if dst.len() <= at {
         return;
     }
-    let mut i = 0;
-    while i < words.len() {
-        write_u32(dst, at + 4 * i, words[i]);
-        i += 1;
+    for (i, word) in words.iter().enumerate() {
+        write_u32(dst, at + 4 * i, *word);
     }
 }

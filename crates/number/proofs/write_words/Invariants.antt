@@ -1,11 +1,8 @@
 -- `number::write_words` meets its contract. The loop's invariant: the words passed are written, and nothing else.
-use Rattle.std.proofs.Common.{length, ◌-◌, ◌≡◌, ◌≤◌, take}
+use Rattle.std.proofs.Common.{◌≡◌, take}
 use Rattle.buffer.specs.Patched.{patched}
 use Rattle.number.specs.Number.{word_bytes}
 use Rattle.number.proofs.write_words.Given as goal
 
 abbrev pub invariant-loop-i : goal.invariant-loop-i
-invariant-loop-i l = (l.i ≤ length l.words) × (l.dst ≡ patched l.initial.dst l.at (word_bytes (take l.i l.words)))
-
-abbrev pub decreases-loop-i : goal.decreases-loop-i
-decreases-loop-i l = length l.words - l.i
+invariant-loop-i l = l.dst ≡ patched l.initial.dst l.at (word_bytes (take l.i l.words))
