@@ -34,7 +34,7 @@ fn room(len: usize, at: usize, count: usize) -> usize
     count.min(len.saturating_sub(at))
 }
 
-// Copies the bytes of src over those of dst.
+// Copies the bytes of src over those of dst. The library's copy calls memmove, and after a zip with `iter_mut` nothing is known of dst.
 fn copy(src: &[u8], dst: &mut [u8])
     requires { length dst.old ≡ length src.now }
     ensures { dst.new ≡ src.now }

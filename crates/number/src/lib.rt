@@ -6,6 +6,7 @@ ghost use Rattle.buffer.specs.Patched.{patched};
 ghost use Rattle.number.specs.Number.{number_at, number_bytes, word_bytes};
 
 // The number of `width` bytes at the offset `at`, lowest byte first; past the end of the bytes stand zeros.
+#[tactic(auto, using(crate::proofs::TurnLaws::read_none, crate::proofs::TurnLaws::read_room, crate::proofs::TurnLaws::read_more, crate::proofs::TurnLaws::read_all))]
 fn read_le(s: &[u8], at: usize, width: usize) -> u64
     requires { width ≤ 8 }
     ensures { (result ≡ number_at width s.now at) × (result < 2 ^ (8 * width)) }
@@ -66,6 +67,7 @@ pub fn write_u32(dst: &mut [u8], at: usize, x: u32)
 }
 
 // Writes a row of words into dst from the offset `at` on, four bytes each; what would fall past the end is left out.
+#[tactic(auto, using(buffer::specs::PatchedLaws::patched_past, crate::proofs::TurnLaws::write_none, crate::proofs::TurnLaws::write_more))]
 pub fn write_words(dst: &mut [u8], at: usize, words: &[u32])
     ensures { dst.new ≡ patched dst.old at (word_bytes words.now) }
 {
