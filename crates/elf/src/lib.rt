@@ -93,7 +93,7 @@ fn check_table(kernel: Kernel, bad: bool) -> Answer<()>
     if bad {
         return Err(Refusal::BadProgramHeader);
     }
-    if kernel::extents_overlap(kernel) {
+    if kernel::extents_overlap(&kernel) {
         return Err(Refusal::SegmentsOverlap);
     }
     Ok(())

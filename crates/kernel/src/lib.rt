@@ -1,8 +1,8 @@
 // The kernel that an image asks for: a list of segments, whatever kind of image it stands in.
 #![tactic(auto)]
 
-ghost use Rattle.std.specs.Prelude.{◌≡◌, ◌+◌, ◌≤◌};
-ghost use Rattle.kernel.specs.Kernel.{max_segments, no_segment, segment_no, extent_no};
+ghost use Rattle.std.specs.Prelude.{◌≡◌, ◌+◌, ◌≤◌, ◌<◌};
+ghost use Rattle.kernel.specs.Kernel.{max_segments, no_segment, extent_no};
 ghost use Rattle.kernel.specs.Checks.{entry_outside, overlaps_earlier, extents_overlap};
 ghost use Rattle.kernel.specs.Judge.{with_entry};
 
@@ -20,6 +20,28 @@ pub struct Segment {
     pub load_end: PhysAddr,
     pub extent_end: PhysAddr,
     pub offset: ImageOffset,
+}
+
+impl Segment {
+    // Its addresses, zeros included.
+    pub fn extent(self) -> Span
+        ensures { result ≡ record { start = self.start; end = self.extent_end } }
+    {
+        Span {
+            start: self.start,
+            end: self.extent_end,
+        }
+    }
+
+    // The addresses of its load bytes.
+    fn loaded(self) -> Span
+        ensures { result ≡ record { start = self.start; end = self.load_end } }
+    {
+        Span {
+            start: self.start,
+            end: self.load_end,
+        }
+    }
 }
 
 // The header found in an image of either kind: where it stands, how many false headers stand below it, and whether modules
@@ -60,70 +82,36 @@ pub fn extent(kernel: Kernel, i: usize) -> Span
     requires { i + 1 ≤ max_segments }
     ensures { result ≡ extent_no kernel i }
 {
-    let segment = kernel.segments[i];
-    let start = segment.start;
-    let end = segment.extent_end;
-    Span { start, end }
+    kernel.segments[i].extent()
 }
 
 // Whether two extents share an address.
-#[tactic(auto, using(laws::proofs::TestLaws::any_none), unfolding(crate::specs::Checks::extents_overlap, crate::specs::Checks::overlaps_earlier))]
-pub fn extents_overlap(kernel: Kernel) -> bool
-    requires { kernel.count ≤ max_segments }
-    ensures { result ≡ extents_overlap kernel }
+pub fn extents_overlap(kernel: &Kernel) -> bool
+    requires { kernel.now.count ≤ max_segments }
+    ensures { result ≡ extents_overlap kernel.now }
 {
-    let mut j = 1;
-    while j < kernel.count {
-        if overlaps_earlier(kernel, j) {
-            return true;
-        }
-        j += 1;
-    }
-    false
+    (0..kernel.count).any(|j| overlaps_earlier(kernel, j))
 }
 
-// Whether an extent but the first shares an address with one before it.
-#[tactic(auto, using(laws::proofs::TestLaws::any_none), unfolding(crate::specs::Checks::overlaps_earlier, crate::specs::Checks::overlap_no))]
-fn overlaps_earlier(kernel: Kernel, j: usize) -> bool
-    requires { (1 ≤ j) × (j + 1 ≤ max_segments) }
-    ensures { result ≡ overlaps_earlier kernel j }
+// Whether an extent shares an address with one before it.
+fn overlaps_earlier(kernel: &Kernel, j: usize) -> bool
+    requires { j < max_segments }
+    ensures { result ≡ overlaps_earlier kernel.now j }
 {
-    let later = extent(kernel, j);
-    let mut i = j;
-    while 0 < i {
-        i -= 1;
-        if extent(kernel, i).overlaps(later) {
-            return true;
-        }
-    }
-    false
+    let later = kernel.segments[j].extent();
+    kernel.segments[..j]
+        .iter()
+        .any(|earlier| earlier.extent().overlaps(later))
 }
 
 // Whether the entry lies in no segment's load bytes.
-#[tactic(auto, using(laws::proofs::TestLaws::any_none_more), unfolding(crate::specs::Checks::entry_outside, crate::specs::Checks::entry_in, laws::specs::Tests::any))]
-fn entry_outside(kernel: Kernel) -> bool
-    requires { kernel.count ≤ max_segments }
-    ensures { result ≡ entry_outside kernel }
+fn entry_outside(kernel: &Kernel) -> bool
+    requires { kernel.now.count ≤ max_segments }
+    ensures { result ≡ entry_outside kernel.now }
 {
-    let mut i = 0;
-    while i < kernel.count {
-        if loaded(kernel, i).contains(kernel.entry) {
-            return false;
-        }
-        i += 1;
-    }
-    true
-}
-
-// The addresses of a segment's load bytes.
-fn loaded(kernel: Kernel, i: usize) -> Span
-    requires { i + 1 ≤ max_segments }
-    ensures { result ≡ record { start = (segment_no kernel i).start; end = (segment_no kernel i).load_end } }
-{
-    let segment = kernel.segments[i];
-    let start = segment.start;
-    let end = segment.load_end;
-    Span { start, end }
+    !kernel.segments[..kernel.count]
+        .iter()
+        .any(|segment| segment.loaded().contains(kernel.entry))
 }
 
 // The kernel, if neither the checks so far nor the one on the entry refuses it.
@@ -133,7 +121,7 @@ pub fn judge_entry(answer: Answer<()>, kernel: Kernel) -> Answer<Kernel>
     ensures { result ≡ with_entry answer kernel }
 {
     answer?;
-    if entry_outside(kernel) {
+    if entry_outside(&kernel) {
         return Err(Refusal::EntryOutsideLoad);
     }
     Ok(kernel)

@@ -1,11 +1,14 @@
--- `kernel::extents_overlap` meets its contract. The loop's invariant: no extent passed shares an address with one before it.
+-- `kernel::extents_overlap` meets its contract.
 -- Assumes nothing.
-use Rattle.std.proofs.Common.{sym, arith}
-use Rattle.laws.proofs.TestLaws.{any_here}
+use Rattle.std.proofs.Common.{refl, arith, rules, tests, ◌∙◌}
+use Rattle.std.proofs.lemmas.Iterator.{YieldsList-from_range}
+use Rattle.std.proofs.lemmas.Iterator.Search.{any_from_yields_List}
 use Rattle.kernel.specs.Checks.{overlaps_earlier, extents_overlap}
+use Rattle.kernel.proofs.AnyLaws.{any_counted}
 use Rattle.kernel.proofs.extents_overlap.Goals as goal
 
-pub returns-then-overlaps_earlier : goal.returns-then-overlaps_earlier
+pub returns : goal.returns
 unfolding extents_overlap
-returns-then-overlaps_earlier c =
-    sym (any_here (overlaps_earlier c.args.kernel) c.args.kernel.count c.loop-j.j (omega arith) (sym c.if-overlaps_earlier.ensures))
+returns c =
+    let k = c.args.kernel.now in
+    any_from_yields_List (overlaps_earlier k) _ _ _ c.any.ensures.ran (YieldsList-from_range 0 k.count k.count refl (omega arith)) (λ x b q k. search (rules, tests)) ∙ any_counted (overlaps_earlier k) k.count
