@@ -1,23 +1,19 @@
 -- A turn of the loop that gathers the segments of a table.
 --     Gathered                                    the segments among the entries passed stand in their places
 --     gathered_none, gathered_one, gathered_on    no entry yet; one more that is a segment; one that is not
---     bad_more                                    whether one is bad, with one more
 --     gathered_all                                all entries
 -- Assumes nothing.
-use Rattle.std.proofs.Common.{◌≡◌, refl, Bool, true, false, ◌||◌, List, [], ◌∷◌, ℕ, ◌+◌, ◌<◌, arith, length, length-append, set, replicate}
+use Rattle.std.proofs.Common.{◌≡◌, refl, Bool, true, false, List, [], ◌∷◌, ℕ, ◌+◌, ◌<◌, arith, length, length-append, set, replicate}
 use Rattle.laws.specs.Passing.{passing}
-use Rattle.laws.specs.Tests.{any}
-use Rattle.laws.proofs.TestLaws.{any_more}
 use Rattle.kernel.specs.declared.Segment.{Segment}
 use Rattle.kernel.specs.declared.FoundHeader.{FoundHeader}
+use Rattle.kernel.specs.declared.Kernel.{Kernel}
 use Rattle.kernel.specs.Kernel.{max_segments, no_segment, places_of, kernel_with}
 use Rattle.kernel.specs.KernelLaws.{places_more}
-use Rattle.elf.specs.declared.Table.{Table}
 use Rattle.elf.specs.declared.read.ElfHeader.{ElfHeader}
 use Rattle.elf.specs.declared.read.ProgramHeader.{ProgramHeader}
 use Rattle.elf.specs.Elf.{program_header_no}
 use Rattle.elf.specs.Segments.{is_segment, segment_of, segments_among, elf_kernel}
-use Rattle.elf.specs.Checks.{bad_header, bad_no}
 use Rattle.elf.specs.Read.{HeaderRead}
 use Rattle.elf.specs.SegmentsLaws.{among_taken, among_left}
 
@@ -43,11 +39,7 @@ module _ (image : List ℕ) (i : ℕ) (segments : List Segment) (count : ℕ) (g
       let u : is_segment (program_header_no image i) ≡ false = rw (← e, ← f) t in
       record { places = rw (among_left image i u) g.places; taken = rw (among_left image i u) g.taken }
 
-pub bad_more : (image : List ℕ) (i : ℕ) (bad : Bool) (p : ProgramHeader) (r : Bool) → bad ≡ any (bad_no image) i → p ≡ program_header_no image i → r ≡ bad || bad_header p (length image) → r ≡ any (bad_no image) (i + 1)
-unfolding bad_no
-bad_more image i bad p r e f g = rw (g, any_more (bad_no image) i, e, f)
-
-pub gathered_all : (image : List ℕ) (h : ElfHeader) (found : FoundHeader) (i : ℕ) (segments : List Segment) (count : ℕ) (bad : Bool) → HeaderRead image h → i ≡ h.e_phnum → Gathered image i segments count → bad ≡ any (bad_no image) i
-    → ◌≡◌ {A = Table} (record { kernel = record { header = found.offset; false_headers = found.false_headers; pages = found.pages; entry = h.e_entry; segments = segments; count = count }; bad = bad }) (record { kernel = elf_kernel image found; bad = any (bad_no image) h.e_phnum })
+pub gathered_all : (image : List ℕ) (h : ElfHeader) (found : FoundHeader) (i : ℕ) (segments : List Segment) (count : ℕ) → HeaderRead image h → i ≡ h.e_phnum → Gathered image i segments count
+    → ◌≡◌ {A = Kernel} (record { header = found.offset; false_headers = found.false_headers; pages = found.pages; entry = h.e_entry; segments = segments; count = count }) (elf_kernel image found)
 unfolding elf_kernel kernel_with
-gathered_all image h found i segments count bad r e g b = rw (b, g.places, g.taken, e, r.is)
+gathered_all image h found i segments count r e g = rw (g.places, g.taken, e, r.is)

@@ -28,73 +28,63 @@ pub fn is_elf(image: &[u8]) -> bool
     number::read_u32(image, 0) == MARK
 }
 
-// What a table says: the kernel of its segments, and whether a loadable program header does not fit.
-#[derive(Clone, Copy)]
-pub struct Table {
-    pub kernel: Kernel,
-    pub bad: bool,
-}
-
 // The kernel of an ELF image with this Multiboot header, or the first of checks 18 to 20 and 14 that refuses it.
 pub fn judge(image: &[u8], found: FoundHeader) -> Answer<Kernel>
     ensures { result ≡ with_entry (first_of (elf_checks image.now (elf_kernel image.now found)) tt) (elf_kernel image.now found) }
 {
-    let h = read::read_header(image);
-    if !check::well_formed(h, image.len()) {
+    let h = ElfHeader::read(image);
+    if !h.well_formed(image.len()) {
         return Err(Refusal::BadElf);
     }
-    let table = read_table(image, h, found);
-    let kernel = table.kernel;
-    kernel::judge_entry(check_table(kernel, table.bad), kernel)
+    let kernel = read_table(image, h, found);
+    kernel::judge_entry(check_table(image, h, &kernel), kernel)
 }
 
-// The table's segments, in table order, and whether a program header is bad.
-fn read_table(image: &[u8], h: ElfHeader, found: FoundHeader) -> Table
+// The kernel of the table's segments, in table order.
+fn read_table(image: &[u8], h: ElfHeader, found: FoundHeader) -> Kernel
     requires { HeaderRead image.now h × (h.e_phnum ≤ max_segments) }
-    ensures { result ≡ record { kernel = elf_kernel image.now found; bad = any (bad_no image.now) h.e_phnum } }
+    ensures { (result ≡ elf_kernel image.now found) × (result.count ≤ max_segments) }
 {
     let mut segments = [kernel::no_segment(); MAX_SEGMENTS];
     let mut count = 0;
-    let mut bad = false;
-    let mut i = 0;
-    while i < h.e_phnum {
-        let p = read::program_header(image, h, i);
-        if check::is_segment(p) {
-            segments[count] = read::segment_of(p);
+    for i in 0..h.e_phnum {
+        let p = h.program_header(image, i);
+        if p.is_segment() {
+            segments[count] = p.segment();
             count += 1;
         }
-        bad = check::or_bad(bad, p, image.len());
-        i += 1;
     }
-    let header = found.offset;
-    let entry = h.e_entry;
-    Table {
-        kernel: Kernel {
-            header,
-            false_headers: found.false_headers,
-            pages: found.pages,
-            entry,
-            segments,
-            count,
-        },
-        bad,
+    Kernel {
+        header: found.offset,
+        false_headers: found.false_headers,
+        pages: found.pages,
+        entry: h.e_entry,
+        segments,
+        count,
     }
 }
 
-// The first check that refuses a table with this kernel, where the header is well formed.
+// The first check that refuses the table with its kernel, where the header is well formed.
 #[tactic(auto, unfolding(crate::specs::Read::table_checks, laws::specs::Checks::first_of))]
-fn check_table(kernel: Kernel, bad: bool) -> Answer<()>
-    requires { kernel.count ≤ max_segments }
-    ensures { result ≡ first_of (table_checks kernel bad) tt }
+fn check_table(image: &[u8], h: ElfHeader, kernel: &Kernel) -> Answer<()>
+    requires { HeaderRead image.now h × (kernel.now.count ≤ max_segments) }
+    ensures { result ≡ first_of (table_checks kernel.now (any (bad_no image.now) h.e_phnum)) tt }
 {
     if kernel.count == 0 {
-        return Err(Refusal::BadElf);
+        Err(Refusal::BadElf)
+    } else if any_bad(image, h) {
+        Err(Refusal::BadProgramHeader)
+    } else if kernel::extents_overlap(kernel) {
+        Err(Refusal::SegmentsOverlap)
+    } else {
+        Ok(())
     }
-    if bad {
-        return Err(Refusal::BadProgramHeader);
-    }
-    if kernel::extents_overlap(&kernel) {
-        return Err(Refusal::SegmentsOverlap);
-    }
-    Ok(())
+}
+
+// Whether some program header is bad.
+fn any_bad(image: &[u8], h: ElfHeader) -> bool
+    requires { HeaderRead image.now h }
+    ensures { result ≡ any (bad_no image.now) h.e_phnum }
+{
+    (0..h.e_phnum).any(|i| h.program_header(image, i).is_bad(image.len()))
 }

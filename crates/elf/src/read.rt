@@ -44,36 +44,54 @@ pub struct ProgramHeader {
     pub p_memsz: usize,
 }
 
-// The ELF header of an image.
-#[tactic(auto, unfolding(crate::specs::Elf::elf_header))]
-pub(crate) fn read_header(image: &[u8]) -> ElfHeader
-    ensures { HeaderRead image.now result }
-{
-    ElfHeader {
-        ei_class: number::read_u8(image, 4),
-        ei_data: number::read_u8(image, 5),
-        e_type: number::read_u16(image, 16),
-        e_machine: number::read_u16(image, 18),
-        e_entry: PhysAddr(word(image, 24) as u64),
-        e_phoff: ImageOffset(word(image, 28)),
-        e_phentsize: number::read_u16(image, 42),
-        e_phnum: number::read_u16(image, 44) as usize,
+impl ElfHeader {
+    // The ELF header of an image.
+    #[tactic(auto, unfolding(crate::specs::Elf::elf_header))]
+    pub(crate) fn read(image: &[u8]) -> ElfHeader
+        ensures { HeaderRead image.now result }
+    {
+        ElfHeader {
+            ei_class: number::read_u8(image, 4),
+            ei_data: number::read_u8(image, 5),
+            e_type: number::read_u16(image, 16),
+            e_machine: number::read_u16(image, 18),
+            e_entry: PhysAddr(word(image, 24) as u64),
+            e_phoff: ImageOffset(word(image, 28)),
+            e_phentsize: number::read_u16(image, 42),
+            e_phnum: number::read_u16(image, 44) as usize,
+        }
+    }
+
+    // The program header of an index.
+    #[tactic(auto, unfolding(crate::specs::Elf::program_header_at))]
+    pub(crate) fn program_header(self, image: &[u8], i: usize) -> ProgramHeader
+        requires { HeaderRead image.now self × (i < 2 ^ 16) }
+        ensures { (result ≡ program_header_no image.now i) × Narrow result }
+    {
+        let at = self.e_phoff.0 + PROGRAM_HEADER * i;
+        ProgramHeader {
+            p_type: number::read_u32(image, at),
+            p_offset: ImageOffset(word(image, at + 4)),
+            p_paddr: PhysAddr(word(image, at + 12) as u64),
+            p_filesz: word(image, at + 16),
+            p_memsz: word(image, at + 20),
+        }
     }
 }
 
-// The program header of an index.
-#[tactic(auto, unfolding(crate::specs::Elf::program_header_at))]
-pub(crate) fn program_header(image: &[u8], h: ElfHeader, i: usize) -> ProgramHeader
-    requires { HeaderRead image.now h × (i < 2 ^ 16) }
-    ensures { (result ≡ program_header_no image.now i) × Narrow result }
-{
-    let at = h.e_phoff.0 + PROGRAM_HEADER * i;
-    ProgramHeader {
-        p_type: number::read_u32(image, at),
-        p_offset: ImageOffset(word(image, at + 4)),
-        p_paddr: PhysAddr(word(image, at + 12) as u64),
-        p_filesz: word(image, at + 16),
-        p_memsz: word(image, at + 20),
+impl ProgramHeader {
+    // Its segment: file bytes first, zeros up to the memory size.
+    pub(crate) fn segment(self) -> Segment
+        requires { Narrow self }
+        ensures { result ≡ segment_of self }
+    {
+        let start = self.p_paddr;
+        Segment {
+            start,
+            load_end: PhysAddr(start.0 + self.p_filesz as u64),
+            extent_end: PhysAddr(start.0 + self.p_memsz as u64),
+            offset: self.p_offset,
+        }
     }
 }
 
@@ -82,19 +100,4 @@ fn word(image: &[u8], at: usize) -> usize
     ensures { (result ≡ number_at 4 image.now at) × (result < 2 ^ 32) }
 {
     number::read_u32(image, at) as usize
-}
-
-// The segment of a program header: file bytes first, zeros up to the memory size.
-pub(crate) fn segment_of(p: ProgramHeader) -> Segment
-    requires { Narrow p }
-    ensures { result ≡ segment_of p }
-{
-    let start = p.p_paddr;
-    let offset = p.p_offset;
-    Segment {
-        start,
-        load_end: PhysAddr(start.0 + p.p_filesz as u64),
-        extent_end: PhysAddr(start.0 + p.p_memsz as u64),
-        offset,
-    }
 }
