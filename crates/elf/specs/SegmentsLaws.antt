@@ -3,20 +3,14 @@
 --     among_most                 there are no more segments than entries
 --     among_at                   the segment of an index, by the entry that it stands in
 -- Assumes nothing.
-use Rattle.std.specs.Prelude.{◌≡◌, refl, true, false, List, [], ◌∷◌, ◌++◌, map, ℕ, zero, suc, ◌+◌, ◌≤◌, ◌<◌, length, get_or}
-use Rattle.std.proofs.lemmas.List.{map-append}
+use Rattle.std.specs.Prelude.{◌≡◌, true, false, List, [], ◌∷◌, ◌++◌, ℕ, ◌+◌, ◌≤◌, ◌<◌, length, get_or}
+use Rattle.std.proofs.lemmas.List.{map-append, get_or-map}
 use Rattle.std.proofs.Common.{arith}
 use Rattle.std.proofs.Math.ListN.{length-map}
 use Rattle.laws.specs.Passing.{passing}
 use Rattle.laws.proofs.PassingLaws.{passing_taken, passing_left, passing_most}
-use Rattle.kernel.specs.declared.Segment.{Segment}
 use Rattle.kernel.specs.Kernel.{no_segment}
 use Rattle.elf.specs.Segments.{is_segment_no, table_segment, segments_among}
-
-map_at : (f : ℕ → Segment) (l : List ℕ) (i : ℕ) → i < length l → get_or (map f l) i no_segment ≡ f (get_or l i 0)
-map_at f [] i h = absurd (omega arith)
-map_at f (x ∷ l) zero h = refl
-map_at f (x ∷ l) (suc i) h = map_at f l i (omega arith)
 
 module _ (image : List ℕ) where
   pub among_taken : (n : ℕ) → is_segment_no image n ≡ true → segments_among image (n + 1) ≡ segments_among image n ++ (table_segment image n ∷ [])
@@ -36,4 +30,4 @@ module _ (image : List ℕ) where
 
   pub among_at : (n i : ℕ) → i < length (segments_among image n) → get_or (segments_among image n) i no_segment ≡ table_segment image (get_or (passing (is_segment_no image) n) i 0)
   unfolding segments_among
-  among_at n i l = map_at (table_segment image) (passing (is_segment_no image) n) i (omega (arith, length-map (passing (is_segment_no image) n) (table_segment image)))
+  among_at n i l = get_or-map (table_segment image) (passing (is_segment_no image) n) i 0 no_segment (omega (arith, length-map (passing (is_segment_no image) n) (table_segment image)))

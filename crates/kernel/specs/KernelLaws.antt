@@ -6,6 +6,7 @@
 -- Assumes nothing.
 use Rattle.std.specs.Prelude.{◌≡◌, refl, List, [], ◌∷◌, ◌++◌, ℕ, zero, suc, ◌+◌, ◌-◌, ◌≤◌, ◌<◌, length, get_or, set, replicate}
 use Rattle.std.proofs.Common.{◌∙◌, append_assoc, arith, length-append}
+use Rattle.std.proofs.Math.ListN.{get_or-eq_default}
 use Rattle.std.proofs.lemmas.List.{set_at}
 use Rattle.laws.proofs.TableLaws.{replicate_at}
 use Rattle.address.specs.declared.PhysAddr.{PhysAddr}
@@ -17,11 +18,6 @@ padded_at : (ss : List Segment) (n i : ℕ) → get_or (ss ++ replicate n no_seg
 padded_at [] n i = replicate_at n i no_segment
 padded_at (s ∷ ss) n zero = refl
 padded_at (s ∷ ss) n (suc i) = padded_at ss n i
-
-past_end : (ss : List Segment) (i : ℕ) → length ss ≤ i → get_or ss i no_segment ≡ no_segment
-past_end [] i l = refl
-past_end (s ∷ ss) zero l = absurd (omega arith)
-past_end (s ∷ ss) (suc i) l = past_end ss i (omega arith)
 
 pub places_at : (ss : List Segment) (i : ℕ) → get_or (places_of ss) i no_segment ≡ get_or ss i no_segment
 places_at ss i = padded_at ss (max_segments - length ss) i
@@ -38,7 +34,7 @@ module _ (found : FoundHeader) (entry : PhysAddr) (ss : List Segment) where
   kernel_at i = places_at ss i
 
   pub kernel_past : (i : ℕ) → length ss ≤ i → segment_no (kernel_with found entry ss) i ≡ no_segment
-  kernel_past i l = kernel_at i ∙ past_end ss i l
+  kernel_past i l = kernel_at i ∙ get_or-eq_default ss no_segment l
 
 -- the load bytes come first and stand in the image, and there is an address
 pub record GoodSegment (image : List ℕ) (s : Segment) : Type 0 where
