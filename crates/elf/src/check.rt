@@ -4,7 +4,6 @@ ghost use Rattle.elf.specs.Read.{Narrow, Short};
 ghost use Rattle.elf.specs.Segments.{is_segment};
 ghost use Rattle.elf.specs.Checks.{right_kind, table_fits, well_formed, fits, bad_header};
 
-use crate::read;
 use crate::read::{ElfHeader, ProgramHeader};
 use kernel::MAX_SEGMENTS;
 
@@ -18,7 +17,7 @@ impl ElfHeader {
         requires { Short self }
         ensures { result ≡ well_formed self n }
     {
-        read::ELF_HEADER <= n && self.right_kind() && self.table_fits(n)
+        ElfHeader::SIZE <= n && self.right_kind() && self.table_fits(n)
     }
 
     // Whether it is a little-endian executable of 32 bits for the 80386, with program headers of 32 bytes.
@@ -39,7 +38,7 @@ impl ElfHeader {
         requires { Short self }
         ensures { result ≡ table_fits self n }
     {
-        self.e_phoff.0 + read::PROGRAM_HEADER * self.e_phnum <= n && self.e_phnum <= MAX_SEGMENTS
+        self.e_phoff.0 + ProgramHeader::SIZE * self.e_phnum <= n && self.e_phnum <= MAX_SEGMENTS
     }
 }
 

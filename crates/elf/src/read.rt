@@ -8,11 +8,6 @@ ghost use Rattle.elf.specs.Segments.{segment_of};
 use address::{ImageOffset, PhysAddr};
 use kernel::Segment;
 
-// How many bytes an ELF header and a program header have.
-pub(crate) const ELF_HEADER: usize = 52;
-
-pub(crate) const PROGRAM_HEADER: usize = 32;
-
 // The fields of an ELF header that decide how it is loaded.
 #[derive(Clone, Copy)]
 pub struct ElfHeader {
@@ -45,6 +40,9 @@ pub struct ProgramHeader {
 }
 
 impl ElfHeader {
+    // How many bytes it has.
+    pub(crate) const SIZE: usize = 52;
+
     // The ELF header of an image.
     #[tactic(auto, unfolding(crate::specs::Elf::elf_header))]
     pub(crate) fn read(image: &[u8]) -> ElfHeader
@@ -68,7 +66,7 @@ impl ElfHeader {
         requires { HeaderRead image.now self × (i < 2 ^ 16) }
         ensures { (result ≡ program_header_no image.now i) × Narrow result }
     {
-        let at = self.e_phoff.0 + PROGRAM_HEADER * i;
+        let at = self.e_phoff.0 + ProgramHeader::SIZE * i;
         ProgramHeader {
             p_type: number::read_u32(image, at),
             p_offset: ImageOffset(word(image, at + 4)),
@@ -80,7 +78,10 @@ impl ElfHeader {
 }
 
 impl ProgramHeader {
-    // Its segment: file bytes first, zeros up to the memory size.
+    // How many bytes it has.
+    pub(crate) const SIZE: usize = 32;
+
+    // Its segment: file bytes first, zeros up to the memory size. No `From`, since it asks that the sums fit.
     pub(crate) fn segment(self) -> Segment
         requires { Narrow self }
         ensures { result ≡ segment_of self }
