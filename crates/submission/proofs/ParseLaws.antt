@@ -1,21 +1,22 @@
 -- What decides on a submission, test by test.
 --     count_is, line_is, end_is                  fields of the layout that was read
---     too_many, .. zero_in_line, else_strings    whether the rules hold
+--     rules_told, too_many                       whether the rules hold
 --     not_parsed, bad_parsed, good_parsed        what the parse gives
 -- Assumes nothing.
 use Rattle.std.specs.Prelude.{Ok, Err}
 use mathlib.Core.Path.{◌≡◌, refl, ap, ◌∙◌}
-use mathlib.Core.Bool.{true, false}
+use mathlib.Core.Bool.{true, false, not, ◌&&◌}
 use mathlib.Core.List.{List}
 use Prim.Native.Nat.{ℕ, ◌≤◌, ◌<◌}
-use borrow.Author.Tests.{le-leb, eq-eqb}
+use borrow.Author.Tests.{le-leb}
+use Rattle.std.specs.Prelude.{leb, eqb}
 use lib.ListN.{length}
 use Rattle.laws.specs.Tests.{all_from}
 use Rattle.laws.specs.Checks.{first_of, passes}
 use Rattle.laws.proofs.CheckLaws.{chain}
 use Rattle.answer.specs.declared.Refusal.TheVariants.{NotASubmission, BadSubmission}
 use Rattle.submission.specs.Scan.{has_zero}
-use Rattle.submission.specs.Format.{module_count, line_length, parts_end, max_modules}
+use Rattle.submission.specs.Format.{module_count, parts_end, max_modules}
 use Rattle.submission.specs.Layout.{line_part, layout_of, bytes_of}
 use Rattle.submission.specs.Parse.{parsed_submission}
 use Rattle.submission.specs.FormatLaws.{layout_line, layout_count, layout_end}
@@ -33,31 +34,16 @@ module _ (s : List ℕ) (l : Layout) (q : l ≡ layout_of s) where
   pub end_is : l.end ≡ parts_end s
   end_is = ap (λ (m : Layout). m.end) q ∙ layout_end s
 
+-- its rules, as they are tested of what was read
+pub rules_told : (s : List ℕ) (l : Layout) → l ≡ layout_of s → module_count s ≤ max_modules
+    → rules_hold s ≡ leb l.line.len max_line && all_from (entry_holds s) 0 l.count && eqb l.end (length s) && not (has_zero (bytes_of s l.line)) && all_from (string_holds s) 0 (module_count s)
+unfolding rules_hold layout_of
+rules_told s l q n = rw (q, le-leb (module_count s) max_modules n) refl
+
 module _ (s : List ℕ) where
   pub too_many : max_modules < module_count s → rules_hold s ≡ false
   unfolding rules_hold
   too_many h = search chain depth 20
-
-  pub long_line : max_line < line_length s → rules_hold s ≡ false
-  unfolding rules_hold
-  long_line h = search chain depth 20
-
-  pub bad_entry : all_from (entry_holds s) 0 (module_count s) ≡ false → rules_hold s ≡ false
-  unfolding rules_hold
-  bad_entry h = search chain depth 20
-
-  pub other_end : (parts_end s ≡ length s → ⊥) → rules_hold s ≡ false
-  unfolding rules_hold
-  other_end h = search chain depth 20
-
-  pub zero_in_line : has_zero (bytes_of s (line_part s)) ≡ true → rules_hold s ≡ false
-  unfolding rules_hold
-  zero_in_line h = search chain depth 20
-
-  pub else_strings : module_count s ≤ max_modules → line_length s ≤ max_line → all_from (entry_holds s) 0 (module_count s) ≡ true → parts_end s ≡ length s → has_zero (bytes_of s (line_part s)) ≡ false
-      → rules_hold s ≡ all_from (string_holds s) 0 (module_count s)
-  unfolding rules_hold
-  else_strings n l a e z = rw (le-leb (module_count s) max_modules n, le-leb (line_length s) max_line l, a, eq-eqb (parts_end s) (length s) e, z) refl
 
   pub not_parsed : is_submission s ≡ false → Err NotASubmission ≡ parsed_submission s
   unfolding parsed_submission submission_checks first_of

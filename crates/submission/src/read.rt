@@ -63,15 +63,11 @@ pub(crate) fn read_layout(s: &[u8], count: usize) -> Layout
         at: image.at + image.len,
         len: number::read_u16(s, 10) as usize,
     };
-    let empty = no_layout();
-    let mut modules = empty.modules;
+    let mut modules = no_layout().modules;
     let mut at = line.at + line.len;
-    let mut i = 0;
-    while i < count {
-        let m = module_from(at, read_entry(s, i));
-        modules[i] = m;
-        at = m.string.at + m.string.len;
-        i += 1;
+    for (i, module) in modules[..count].iter_mut().enumerate() {
+        *module = module_from(at, read_entry(s, i));
+        at = module.string.at + module.string.len;
     }
     Layout {
         image,
@@ -89,11 +85,8 @@ fn read_ceilings(s: &[u8], count: usize) -> [u16; MAX_MODULES]
     ensures { result ≡ ceiling_table s.now count }
 {
     let mut list = [0; MAX_MODULES];
-    let mut i = 0;
-    while i < count {
-        let entry = read_entry(s, i);
-        list[i] = entry.ceiling;
-        i += 1;
+    for (i, ceiling) in list[..count].iter_mut().enumerate() {
+        *ceiling = read_entry(s, i).ceiling;
     }
     list
 }
