@@ -27,14 +27,14 @@ pub const MAX_LINE: usize = 255;
 pub(crate) const MAX_STRING: u16 = 127;
 
 // A part of the submission, by its offset and length.
-#[derive(Clone, Copy)]
+#[derive(Clone, Copy, Default)]
 pub struct Part {
     pub at: usize,
     pub len: usize,
 }
 
 // The parts of one module.
-#[derive(Clone, Copy)]
+#[derive(Clone, Copy, Default)]
 pub struct Module {
     pub data: Part,
     pub string: Part,
@@ -75,14 +75,6 @@ pub fn parse(s: &[u8]) -> Answer<Layout>
 pub fn bytes_of<'a>(s: &'a [u8], p: Part) -> &'a [u8]
     ensures { result.now ≡ bytes_of s.now p }
 {
-    let at = p.at;
-    let len = p.len;
-    if s.len() <= at {
-        return &s[..0];
-    }
-    if s.len() - at < len {
-        return &s[at..];
-    }
-    let end = at + len;
-    &s[at..end]
+    let rest = s.get(p.at..).unwrap_or_default();
+    rest.get(..p.len).unwrap_or(rest)
 }

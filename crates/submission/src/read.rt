@@ -63,7 +63,7 @@ pub(crate) fn read_layout(s: &[u8], count: usize) -> Layout
         at: image.at + image.len,
         len: number::read_u16(s, 10) as usize,
     };
-    let mut modules = no_layout().modules;
+    let mut modules = [Module::default(); MAX_MODULES];
     let mut at = line.at + line.len;
     for (i, module) in modules[..count].iter_mut().enumerate() {
         *module = module_from(at, read_entry(s, i));
@@ -112,14 +112,11 @@ fn module_from(at: usize, entry: TableEntry) -> Module
 pub(crate) fn no_layout() -> Layout
     ensures { result ≡ no_layout }
 {
-    let none = Part { at: 0, len: 0 };
+    let none = Part::default();
     Layout {
         image: none,
         line: none,
-        modules: [Module {
-            data: none,
-            string: none,
-        }; MAX_MODULES],
+        modules: [Module::default(); MAX_MODULES],
         ceilings: [0; MAX_MODULES],
         count: 0,
         end: 0,

@@ -1,18 +1,11 @@
 -- Each turn stores one module more, and what was read is the layout.
-use Rattle.std.proofs.Common.{◌++◌, drop, length, length-take, ◌≡◌, ◌∙◌, ◌+◌, List, ℕ, refl, ap, arith, replicate, take-append-drop}
+use Rattle.std.proofs.Common.{rules, ◌++◌, drop, length-take, ◌≡◌, ◌∙◌, ◌+◌, List, ℕ, refl, ap, arith, replicate, take-append-drop}
 use Rattle.laws.proofs.TableLaws.{table_none}
 use Rattle.submission.specs.Format.{module_count, image_length, line_length, entry_offset, data_start, max_modules}
 use Rattle.submission.specs.Layout.{module_of, no_module, module_table, ceiling_table, layout_of}
-use Rattle.submission.specs.Parse.{no_layout}
 use Rattle.submission.specs.declared.Module.{Module}
-use Rattle.submission.specs.declared.Layout.{Layout}
 use Rattle.submission.proofs.TurnLaws.{filled_more, read_module, next_data}
 use Rattle.submission.proofs.read.read_layout.Goals as goal
-
--- the table before the loop
-empty : (l : Layout) → l ≡ no_layout → l.modules ≡ replicate max_modules no_module
-unfolding no_layout
-empty l e = ap (λ (m : Layout). m.modules) e
 
 -- what was read is the layout
 laid : (s : List ℕ) (n start image line i : ℕ) (ms : List Module) (cs : List ℕ) (at : ℕ) → n ≡ module_count s → start ≡ entry_offset n → image ≡ image_length s → line ≡ line_length s → i ≡ module_count s → ms ≡ module_table s i → cs ≡ ceiling_table s n → at ≡ data_start s i
@@ -23,7 +16,8 @@ laid s n start image line i ms cs at c b h l e m q d = rw (m, q, d, e, b, c, h, 
 pub loop-i-init : goal.loop-i-init
 unfolding data_start
 loop-i-init c =
-    (rw (empty c.no_layout.result c.no_layout.ensures) (take-append-drop c.args.count (replicate max_modules no_module) ∙ table_none (module_of c.args.s.now) max_modules no_module), cc, omega arith)
+    let e : c.default-modules.result ≡ no_module = search rules in
+    (rw e (take-append-drop c.args.count (replicate max_modules no_module) ∙ table_none (module_of c.args.s.now) max_modules no_module), cc, omega arith)
 
 pub loop-i-preserved : goal.loop-i-preserved
 loop-i-preserved c =
@@ -38,7 +32,7 @@ loop-i-preserved c =
 pub returns : goal.returns
 returns c =
     let s = c.args.s.now in
-    let m = empty c.no_layout.result c.no_layout.ensures in
-    let e : c.loop-i.i ≡ module_count s = omega (arith, ap length m, length-take c.args.count c.no_layout.result.modules) in
-    let f = ap (λ (xs : List Module). c.loop-i.module-items ++ drop c.args.count xs) m ∙ c.loop-i.invariant.0 in
-    laid s c.args.count c.entry_offset.result c.read_u32.result c.read_u16.result c.loop-i.i _ c.read_ceilings.result c.loop-i.at c.requires.0 c.entry_offset.ensures c.read_u32.ensures c.read_u16.ensures e f c.read_ceilings.ensures c.loop-i.invariant.1
+    let e : c.loop-i.i ≡ module_count s = omega (arith, length-take c.args.count (replicate max_modules c.default-modules.result)) in
+    let d : c.default-modules.result ≡ no_module = search rules in
+    let m = ap (λ (z : Module). c.loop-i.module-items ++ drop c.args.count (replicate max_modules z)) d ∙ c.loop-i.invariant.0 in
+    laid s c.args.count c.entry_offset.result c.read_u32.result c.read_u16.result c.loop-i.i _ c.read_ceilings.result c.loop-i.at c.requires.0 c.entry_offset.ensures c.read_u32.ensures c.read_u16.ensures e m c.read_ceilings.ensures c.loop-i.invariant.1
