@@ -1,7 +1,7 @@
 -- What decides on a submission, test by test.
---     count_is, line_is, end_is                  fields of the layout that was read
---     rules_told, too_many                       whether the rules hold
---     not_parsed, bad_parsed, good_parsed        what the parse gives
+--     count_is                               the count of the layout that was read
+--     rules_told, too_many                   whether the rules hold
+--     not_parsed, bad_parsed, good_parsed    what the parse gives
 -- Assumes nothing.
 use Rattle.std.specs.Prelude.{Ok, Err}
 use mathlib.Core.Path.{◌≡◌, refl, ap, ◌∙◌}
@@ -16,23 +16,16 @@ use Rattle.laws.specs.Checks.{first_of, passes}
 use Rattle.laws.proofs.CheckLaws.{chain}
 use Rattle.answer.specs.declared.Refusal.TheVariants.{NotASubmission, BadSubmission}
 use Rattle.submission.specs.Scan.{has_zero}
-use Rattle.submission.specs.Format.{module_count, parts_end, max_modules}
-use Rattle.submission.specs.Layout.{line_part, layout_of, bytes_of}
+use Rattle.submission.specs.Format.{module_count, max_modules}
+use Rattle.submission.specs.Layout.{layout_of, bytes_of}
 use Rattle.submission.specs.Parse.{parsed_submission}
-use Rattle.submission.specs.FormatLaws.{layout_line, layout_count, layout_end}
+use Rattle.submission.specs.FormatLaws.{layout_count}
 use Rattle.submission.specs.Rules.{max_line, is_submission, entry_holds, string_holds, rules_hold, submission_checks}
 use Rattle.submission.specs.declared.Layout.{Layout}
 
--- the layout that was read
-module _ (s : List ℕ) (l : Layout) (q : l ≡ layout_of s) where
-  pub count_is : l.count ≡ module_count s
-  count_is = ap (λ (m : Layout). m.count) q ∙ layout_count s
-
-  pub line_is : l.line ≡ line_part s
-  line_is = ap (λ (m : Layout). m.line) q ∙ layout_line s
-
-  pub end_is : l.end ≡ parts_end s
-  end_is = ap (λ (m : Layout). m.end) q ∙ layout_end s
+-- the layout that was read has the count of the submission
+pub count_is : (s : List ℕ) (l : Layout) → l ≡ layout_of s → l.count ≡ module_count s
+count_is s l q = ap (λ (m : Layout). m.count) q ∙ layout_count s
 
 -- its rules, as they are tested of what was read
 pub rules_told : (s : List ℕ) (l : Layout) → l ≡ layout_of s → module_count s ≤ max_modules
