@@ -47,8 +47,7 @@ fn sums_to_zero(s: &[u8], at: usize) -> bool
     let magic = number::read_u32(s, at);
     let flags = number::read_u32(s, at + FLAGS);
     let checksum = number::read_u32(s, at + CHECKSUM);
-    let sum = std::num::wrapping_add_u32(std::num::wrapping_add_u32(magic, flags), checksum);
-    sum == 0
+    magic.wrapping_add(flags).wrapping_add(checksum) == 0
 }
 
 // The lowest header in the bytes of a searched part, and how many false headers stand below it.
@@ -57,20 +56,17 @@ fn first_header(s: &[u8]) -> Searched
     requires { length s.now ≤ search_limit }
     ensures { result ≡ searched s.now }
 {
-    let mut at = 0;
     let mut passed = 0;
-    while SHORT_HEADER <= s.len() - at {
+    for at in (0..s.len().saturating_sub(SHORT_HEADER - 1)).step_by(STEP) {
         if has_magic(s, at) {
             if sums_to_zero(s, at) {
-                let header = Some(ImageOffset(at));
                 return Searched {
-                    header,
+                    header: Some(ImageOffset(at)),
                     false_headers: passed,
                 };
             }
             passed += 1;
         }
-        at += STEP;
     }
     Searched {
         header: None,
@@ -91,9 +87,5 @@ pub fn find_header(image: &[u8]) -> Searched
 pub fn searched_end(len: usize) -> usize
     ensures { result ≡ min len search_limit }
 {
-    if len < SEARCH_LIMIT {
-        len
-    } else {
-        SEARCH_LIMIT
-    }
+    len.min(SEARCH_LIMIT)
 }

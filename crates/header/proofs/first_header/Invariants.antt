@@ -1,11 +1,7 @@
 -- `header::first_header` meets its contract. The loop's invariant: the search has passed the places before the offset.
 -- Assumes nothing.
-use Rattle.std.proofs.Common.{◌-◌, length}
 use Rattle.header.proofs.TurnLaws.{Passed}
 use Rattle.header.proofs.first_header.Given as goal
 
 abbrev pub invariant-loop-at : goal.invariant-loop-at
 invariant-loop-at l = Passed l.s l.at l.passed
-
-abbrev pub decreases-loop-at : goal.decreases-loop-at
-decreases-loop-at l = length l.s - l.at
