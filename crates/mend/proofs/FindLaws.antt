@@ -1,59 +1,63 @@
--- A turn of the search for the lowest magic.
---     Tried                     what is known where the search has come to an offset
---     tried_start, tried_on     before the first turn, and past a place without the magic
---     tried_found, tried_all    what the search answers
+-- What `find` answers over the multiples of 4 below a number, and that it is the lowest magic.
+--     item             the multiple that comes at a place
+--     none_below       no multiple passed
+--     first_below      none passed before the one found
+--     lowest_found     the lowest magic is found
 -- Assumes nothing.
-use Rattle.std.specs.Prelude.{Some, None}
-use Rattle.std.proofs.Common.{◌≡◌, ℕ, ◌+◌, ◌*◌, ◌/◌, ◌%◌, ◌<◌, ◌≤◌, min, true, false, eqb, List, length, refl, ap, ◌∙◌, ⊎_elim, arith, eqb-true}
+use Rattle.std.proofs.Common.{◌≡◌, ℕ, ◌+◌, ◌-◌, ◌*◌, ◌<◌, ◌≤◌, min, Bool, true, false, List, length, sym, refl, ap, ◌∙◌, ⊎_elim, arith, eqb-true, ◌==◌}
+use Rattle.std.specs.Prelude.{Option, Some, None, MatchOption}
+use Rattle.std.specs.Bool.{IsTrue}
+use Rattle.std.specs.Option.{option_map}
+use Rattle.std.specs.Fn.{CalledAt}
+use Rattle.std.specs.Iterator.Runs.{Run, AllItems, AllItemsBelow, IsStepByRun, ItemsCountUp, CallKeepsClosure, NoItemPasses, EndsAtFirstPassing}
+use Rattle.std.proofs.lemmas.Option.{same_Some}
+use denote.Ref.{Bor}
+use denote.Param.Members.{Mut}
 use Rattle.laws.proofs.TestLaws.{lt_or_le}
 use Rattle.number.specs.Number.{number_at}
+use Rattle.address.specs.declared.ImageOffset.{ImageOffset}
 use Rattle.header.specs.Header.{header_magic, search_limit, short_header}
 use Rattle.header.specs.HeaderAt.{MagicAt}
 use Rattle.header.proofs.RoomLaws.{past_end, past_limit}
-use Rattle.mend.specs.Mend.{is_magic_at, is_magic_place, lowest_magic}
+use Rattle.mend.specs.Mend.{lowest_magic}
 use Rattle.mend.proofs.MagicLaws.{magic_is, no_magic, without_room, magic_found, magic_none}
 
--- no place before the offset `at` has the magic; the searched part ends at `end`
-pub record Tried (image : List ℕ) (end at : ℕ) : Type 0 where
-  pub inside : at ≤ end
-  pub multiple : at % 4 ≡ 0
-  pub none : (k : ℕ) → 4 * k < at → is_magic_place image k ≡ false
+same_option : (o : Option ℕ) → o ≡ option_map (λ y. y) o
+same_option None = refl
+same_option (Some x) = refl
 
-pub tried_start : (image : List ℕ) (end : ℕ) → Tried image end 0
-tried_start image end = record { inside = omega arith; multiple = refl; none = λ k l. absurd (omega arith) }
+-- the run p takes every fourth item of q, which counts up from 0 to n
+module _ {S T : Type 0} {steps : S → Option ℕ → S → Type 0} {source : T → Option ℕ → T → Type 0} (p : Run steps) (q : Run source) (n : ℕ) (walk : IsStepByRun p q 4) (up : ItemsCountUp q 0 n) where
+  item : (k : ℕ) → k < p.len → p.at k ≡ Some (4 * k)
+  item k l =
+      let e : 0 + k * 4 ≡ 4 * k = omega arith in
+      walk.4 k ∙ (same_option (q.at (k * 4)) ∙ (up.3 (k * 4) (omega (arith, walk.3)) ∙ ap Some e))
 
-module _ {image : List ℕ} {end at : ℕ} (t : Tried image end at) where
-  -- the place of the offset, or one before it
-  up_to : is_magic_at image at ≡ false → (k : ℕ) → 4 * k < at + 4 → is_magic_place image k ≡ false
-  up_to e k l =
-      ⊎_elim
-      (λ (m : 4 * k < at). t.none k m)
-      (λ (m : at ≤ 4 * k). let q : 4 * k ≡ at = omega (arith, t.multiple) in ap (is_magic_at image) q ∙ e)
-      (lt_or_le (4 * k) at)
+  none_below : (No : ℕ → Type 0) → p.whole ≡ true → AllItems p No → (k : ℕ) → 4 * k < n → No (4 * k)
+  none_below No w all k l = rw (item k (omega (arith, walk.2, up.1 (walk.0 ∙ w)))) at (all k)
 
-  pub tried_on : at + short_header ≤ end → eqb (number_at 4 image at) header_magic ≡ false → Tried image end (at + 4)
-  tried_on l e = record { inside = omega arith; multiple = omega (arith, t.multiple); none = up_to (no_magic image at e) }
+  first_below : (No : ℕ → Type 0) (i : ℕ) → i < p.len → AllItemsBelow p i No → (k : ℕ) → k < i → No (4 * k)
+  first_below No i m all k l = rw (item k (omega arith)) at (all k l)
 
-  module _ (is : end ≡ min (length image) search_limit) where
-    pub tried_found : at + short_header ≤ end → eqb (number_at 4 image at) header_magic ≡ true → Some (record { 0 = at }) ≡ lowest_magic image
-    tried_found l e =
-        let q : at ≡ 4 * (at / 4) = omega (arith, t.multiple) in
-        let m : MagicAt image at = record { multiple = t.multiple; whole = omega arith; early = omega arith; marked = eqb-true _ _ e } in
-        let here = (magic_is image at t.multiple).1 m in
-        ap (λ (o : ℕ). Some (record { 0 = o })) q
-        ∙ magic_found image (at / 4) (rw (← q) here) (λ j m. t.none j (omega arith))
-
-    -- too few bytes are left
-    pub tried_all : end < at + short_header → None ≡ lowest_magic image
-    tried_all l =
+  -- n leaves room for a header in the searched part of the image, and the closure f tests for the magic
+  module _ {F : Type 0} (g : Mut F (Bor ℕ × Unit {0}) Bool) (f : F) (keeps : CallKeepsClosure g f) (image : List ℕ) (room : n ≡ min (length image) search_limit - 11) (tells : (x : ℕ) (b : Bool) → CalledAt g f x b f → b ≡ (number_at 4 image x == header_magic)) where
+    pub lowest_found : (r : Option ℕ) → MatchOption r (IsTrue p.whole × NoItemPasses p g f) (EndsAtFirstPassing p g f) → ◌≡◌ {A = Option ImageOffset} (option_map (λ x. record { 0 = x }) r) (lowest_magic image)
+    lowest_found None h =
         magic_none image
         (λ j.
         ⊎_elim
-        (λ (m : 4 * j < at). t.none j m)
-        (λ (m : at ≤ 4 * j).
+        (λ (l : 4 * j < n). no_magic image (4 * j) (sym (tells _ _ (none_below (λ x. CalledAt g f x false f) h.0 (h.1 keeps) j l))))
+        (λ (l : n ≤ 4 * j).
         without_room image (4 * j)
         (⊎_elim
-        (λ (n : length image < 4 * j + short_header). past_end image (4 * j) n)
-        (λ (n : 4 * j + short_header ≤ length image). past_limit image (4 * j) (omega arith))
+        (λ (m : length image < 4 * j + short_header). past_end image (4 * j) m)
+        (λ (m : 4 * j + short_header ≤ length image). past_limit image (4 * j) (omega arith))
         (lt_or_le (length image) (4 * j + short_header))))
-        (lt_or_le (4 * j) at))
+        (lt_or_le (4 * j) n))
+    lowest_found (Some x) h =
+        let i = h.0 in
+        let e : x ≡ 4 * i = same_Some _ _ (sym h.2 ∙ item i (omega (arith, h.1))) in
+        let t = rw e at (h.3 keeps).0 in
+        let m : MagicAt image (4 * i) = record { multiple = omega arith; whole = omega (arith, walk.3, up.0, h.1); early = omega (arith, walk.3, up.0, h.1); marked = eqb-true _ _ (sym (tells _ _ t)) } in
+        ap (λ (o : ℕ). Some (record { 0 = o })) e
+        ∙ magic_found image i ((magic_is image (4 * i) (omega arith)).1 m) (λ j l. no_magic image (4 * j) (sym (tells _ _ (first_below (λ y. CalledAt g f y false f) i (omega (arith, h.1)) (h.3 keeps).1 j l))))

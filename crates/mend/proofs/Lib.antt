@@ -1,5 +1,5 @@
 -- What the proofs of this crate's functions share.
-pub mod TurnLaws
+pub mod FindLaws
 pub mod MagicLaws
 pub mod MendLaws
 pub mod PromisesLaws

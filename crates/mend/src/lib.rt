@@ -34,10 +34,8 @@ pub fn mend(image: &mut [u8]) -> Mending
     ensures image_after { image.new ≡ image_after image.old }
 {
     let mending = decide(image);
-    match mending {
-        Mending::HeaderFound => {}
-        Mending::Mended(change) => number::write_u32(image, change.offset.0 + CHECKSUM, change.new),
-        Mending::NoMagic => {}
+    if let Mending::Mended(change) = mending {
+        number::write_u32(image, change.offset.0 + CHECKSUM, change.new);
     }
     mending
 }
@@ -47,8 +45,7 @@ pub fn number(mending: Mending) -> u32
     ensures { result ≡ mend_number mending }
 {
     match mending {
-        Mending::HeaderFound => 0,
-        Mending::Mended(_) => 0,
+        Mending::HeaderFound | Mending::Mended(_) => 0,
         Mending::NoMagic => 26,
     }
 }
@@ -68,19 +65,14 @@ fn decide(image: &[u8]) -> Mending
 }
 
 // The lowest multiple of 4 at which the magic stands, with room for 12 bytes inside the searched part.
-#[tactic(auto, using(crate::proofs::TurnLaws::tried_on, crate::proofs::TurnLaws::tried_found, crate::proofs::TurnLaws::tried_all))]
 fn lowest_magic(image: &[u8]) -> Option<ImageOffset>
     ensures { result ≡ lowest_magic image.now }
 {
     let end = header::searched_end(image.len());
-    let mut at = 0;
-    while SHORT_HEADER <= end - at {
-        if header::has_magic(image, at) {
-            return Some(ImageOffset(at));
-        }
-        at += STEP;
-    }
-    None
+    (0..end.saturating_sub(SHORT_HEADER - 1))
+        .step_by(STEP)
+        .find(|&at| header::has_magic(image, at))
+        .map(ImageOffset)
 }
 
 // The checksum at the magic at an offset, as it stands and as it has to be.
@@ -99,5 +91,5 @@ fn change_at(image: &[u8], offset: ImageOffset) -> Change
 fn right_checksum(flags: u32) -> u32
     ensures { result ≡ right_checksum flags }
 {
-    std::num::wrapping_sub_u32(0, std::num::wrapping_add_u32(HEADER_MAGIC, flags))
+    HEADER_MAGIC.wrapping_add(flags).wrapping_neg()
 }
