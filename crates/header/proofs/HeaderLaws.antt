@@ -2,6 +2,7 @@
 --     word_take                       a word of the first bytes
 --     answers                         what the search says of all offsets
 --     header_lowest, lowest_header    the search finds o exactly where o is the lowest offset of a header
+--     header_early                    the header found lies in the searched part
 --     header_none, none_header        it finds nothing exactly where there is no header
 -- Assumes nothing.
 use Rattle.std.specs.Prelude.{◌≡◌, ℕ, zero, suc, ◌+◌, ◌-◌, ◌*◌, ◌/◌, ◌%◌, ◌^◌, ◌<◌, ◌≤◌, min, Bool, true, false, List, [], ◌∷◌, length, take, drop, nat_eq, refl, Option, Some, None}
@@ -109,6 +110,10 @@ module _ (s : List ℕ) where
 -- a header that was found is the lowest
 pub header_lowest : (s : List ℕ) (o : ImageOffset) → header s ≡ Some o → HeaderAt s o.0 × ((p : ℕ) → p < o.0 → HeaderAt s p → ⊥)
 header_lowest s o e = subst (Answers (HeaderAt s)) e (answers s)
+
+-- and lies in the searched part
+pub header_early : (s : List ℕ) (o : ImageOffset) → header s ≡ Some o → o.0 + short_header ≤ search_limit
+header_early s o e = (header_lowest s o e).0.magic.early
 
 -- nothing is found only where there is no header
 pub header_none : (s : List ℕ) → header s ≡ None → (o : ℕ) → HeaderAt s o → ⊥

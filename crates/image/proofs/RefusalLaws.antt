@@ -5,11 +5,12 @@
 --     found_is                         the header found, by its parts
 --     by_elf, by_address               the kind is chosen by the flags
 --     cut_off_lem, before_image_lem    checks 9 and 10
---     load_inside, load_left           the load begins inside the image, and the checks on it are left
+--     load_left                        the checks on the load are left
 --     length_fits, one_few             how long a load is at most, and that one segment is not too many
 -- Assumes nothing.
 use Rattle.std.specs.Prelude.{Ok, Err, Option, Some, None}
-use mathlib.Core.Path.{◌≡◌, refl, sym}
+use Rattle.std.proofs.lemmas.Option.{none-some}
+use mathlib.Core.Path.{◌≡◌, refl, sym, ◌∙◌}
 use mathlib.Core.Bool.{Bool, true, false, cond}
 use mathlib.Core.List.{List, ◌++◌}
 use Prim.Native.Nat.{ℕ, ◌^◌, ◌≤◌, ◌<◌}
@@ -34,16 +35,15 @@ use Rattle.image.specs.Load.{flags_at, fields_at, on_pages, load_offset, load_le
 use Rattle.image.specs.Narrow.{Narrow}
 use Rattle.image.specs.Judged.{unknown_request, undefined_bits, no_addresses, unknown_kind, cut_off, before_image, header_flags, found_header, is_addressed, header_checks, load_checks, field_checks, kind_checks, image_checks, kernel_for, fields_kernel, kernel_of}
 use Rattle.image.specs.Judge.{judged}
-use Rattle.image.specs.LoadLaws.{offset_inside}
 use Rattle.image.specs.JudgedLaws.{kind_fields, kind_elf, kernel_fields, kernel_elf}
 
 -- what a choice between nothing and an offset was made by
 chosen_none : (t : Bool) (x : Option ImageOffset) (y : ImageOffset) → x ≡ cond t None (Some y) → x ≡ None → t ≡ true
 chosen_none true x y e f = refl
-chosen_none false x y e f = let z : ◌≡◌ {A = ℕ} 0 1 = cc in absurd (omega arith)
+chosen_none false x y e f = absurd (none-some y (sym f ∙ e))
 
 chosen_one : (t : Bool) (x : Option ImageOffset) (y z : ImageOffset) → x ≡ cond t None (Some y) → x ≡ Some z → (t ≡ false) × (z.0 ≡ y.0)
-chosen_one true x y z e f = let q : ◌≡◌ {A = ℕ} 0 1 = cc in absurd (omega arith)
+chosen_one true x y z e f = absurd (none-some z (sym e ∙ f))
 chosen_one false x y z e f = (refl, cc)
 
 -- refused by the first check on the header that applies
@@ -126,11 +126,6 @@ module _ {image : List ℕ} {at : ImageOffset} {h : AddressFields} (w : WholeHea
   before_image_lem none =
       let t : before_image h at.0 ≡ true = chosen_none _ r _ offset none in
       field_refused LoadBeforeImage image (rw (w.found, ← w.read) (search chain depth 20))
-
-  pub load_inside : (o : ImageOffset) → r ≡ Some o → o.0 < length image
-  load_inside o one =
-      let q = chosen_one (before_image h at.0) r (record { 0 = load_offset h at.0 }) o offset one in
-      omega (arith, q.1, offset_inside h at.0 (length image) w.whole)
 
   pub load_left : (o : ImageOffset) (found : FoundHeader) → r ≡ Some o → found ≡ found_header image
       → with_entry (first_of (load_checks h o.0 (load_length h o.0 (length image)) (length image)) (tt {0})) (kernel_for h found o.0 (load_length h o.0 (length image))) ≡ with_entry (first_of (field_checks image) (tt {0})) (fields_kernel image)

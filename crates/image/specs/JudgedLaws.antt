@@ -23,7 +23,7 @@ use Rattle.answer.specs.declared.Refusal.TheVariants.{NoHeader, HeaderCutOff, Lo
 use Rattle.address.specs.declared.ImageOffset.{ImageOffset}
 use Rattle.header.specs.Header.{header_magic, search_limit, short_header, header}
 use Rattle.header.specs.FalseHeader.{false_headers}
-use Rattle.header.proofs.HeaderLaws.{header_lowest}
+use Rattle.header.proofs.HeaderLaws.{header_lowest, header_early}
 use Rattle.kernel.specs.declared.Kernel.{Kernel}
 use Rattle.kernel.specs.Kernel.{max_segments, no_segment, kernel_with, segment_no, extent_no}
 use Rattle.kernel.specs.KernelLaws.{kernel_past, GoodSegment}
@@ -217,7 +217,7 @@ module _ (image : List ℕ) (e : passes (image_checks image) ≡ true) where
         record {
           found = f;
           counted = refl;
-          early = (header_lowest image (fields_kernel image).header f).0.magic.early;
+          early = header_early image (fields_kernel image).header f;
           pages = refl;
           few = omega arith;
           rest = kernel_past (found_header image) (header_fields image).entry_addr (segment_for (header_fields image) (first_loaded image) (count_loaded image) ∷ []);
@@ -253,7 +253,7 @@ module _ (image : List ℕ) (e : passes (image_checks image) ≡ true) where
         record {
           found = f;
           counted = refl;
-          early = (header_lowest image (elf_in image).header f).0.magic.early;
+          early = header_early image (elf_in image).header f;
           pages = refl;
           few = p.few;
           rest = t.rest;

@@ -33,6 +33,7 @@ pub fn judge(image: &[u8]) -> Answer<Kernel>
 }
 
 // The answer for an image whose header was found behind so many false ones.
+#[tactic(auto, using(header::proofs::HeaderLaws::header_early, crate::proofs::RefusalLaws::unknown_request_lem, crate::proofs::RefusalLaws::undefined_bits_lem, crate::proofs::RefusalLaws::unknown_kind_lem, crate::proofs::RefusalLaws::kind_judged))]
 fn judge_header(image: &[u8], at: ImageOffset, passed: u32) -> Answer<Kernel>
     requires { (header image.now ≡ Some at) × (passed ≡ false_headers image.now) }
     ensures { result ≡ judged image.now }
@@ -51,6 +52,7 @@ fn judge_header(image: &[u8], at: ImageOffset, passed: u32) -> Answer<Kernel>
 }
 
 // The answer of the checks on address fields or on an ELF image, as the flags say, and of the one on the entry.
+#[tactic(auto, using(crate::proofs::RefusalLaws::found_is, crate::proofs::RefusalLaws::by_elf, crate::proofs::RefusalLaws::by_address))]
 fn judge_kind(image: &[u8], at: ImageOffset, passed: u32, flags: u32) -> Answer<Kernel>
     requires { (header image.now ≡ Some at) × (passed ≡ false_headers image.now) × (flags ≡ flags_at image.now at.0) }
     ensures { result ≡ with_entry (first_of (kind_checks image.now) tt) (kernel_of image.now) }
@@ -67,6 +69,7 @@ fn judge_kind(image: &[u8], at: ImageOffset, passed: u32, flags: u32) -> Answer<
 }
 
 // The answer of the checks on the address fields of the header found, and of the one on the entry.
+#[tactic(auto, using(crate::proofs::RefusalLaws::cut_off_lem, crate::proofs::RefusalLaws::before_image_lem, crate::proofs::RefusalLaws::load_left))]
 fn judge_fields(image: &[u8], found: FoundHeader) -> Answer<Kernel>
     requires { (header image.now ≡ Some found.offset) × (found ≡ found_header image.now) }
     ensures { result ≡ with_entry (first_of (field_checks image.now) tt) (fields_kernel image.now) }
