@@ -21,41 +21,34 @@ pub struct Board {
     pub window: Span,
 }
 
-// Whether the address is open: usable, inside the window, and not below the end of the BIOS data area.
-#[tactic(auto, unfolding(crate::specs::Open::is_open))]
-pub fn is_open(board: Board, a: PhysAddr) -> bool
-    ensures { result ≡ is_open board a.0 }
-{
-    if a.0 < BIOS_DATA_END {
-        return false;
+impl Board {
+    // Whether the address is open: usable, inside the window, and not below the end of the BIOS data area.
+    #[tactic(auto, unfolding(crate::specs::Open::is_open))]
+    pub fn is_open(&self, a: PhysAddr) -> bool
+        ensures { result ≡ is_open self.now a.0 }
+    {
+        BIOS_DATA_END <= a.0 && self.window.contains(a) && usable::is_usable(&self.map, a)
     }
-    if !board.window.contains(a) {
-        return false;
+
+    // The nearest edge of the window, the BIOS data area or a pair past x, at most the window's end: up to it all addresses
+    // are open, or none is.
+    #[tactic(auto, unfolding(crate::specs::OpenEdge::open_edge))]
+    pub fn open_edge(&self, x: PhysAddr) -> PhysAddr
+        ensures { result.0 ≡ open_edge self.now x.0 }
+    {
+        let of_window = edge::nearer(x, self.window.end, self.window.start);
+        let e = edge::nearer(x, of_window, PhysAddr(BIOS_DATA_END));
+        usable::map_edge(&self.map, x, e)
     }
-    usable::is_usable(board.map, a)
-}
 
-// The nearest edge of the window, the BIOS data area or a pair past x, at most the window's end: up to it all addresses are
-// open, or none is.
-#[tactic(auto, unfolding(crate::specs::OpenEdge::open_edge))]
-pub fn open_edge(board: Board, x: PhysAddr) -> PhysAddr
-    ensures { result.0 ≡ open_edge board x.0 }
-{
-    let of_window = edge::nearer(x, board.window.end, board.window.start);
-    let e = edge::nearer(x, of_window, PhysAddr(BIOS_DATA_END));
-    usable::map_edge(board.map, x, e)
-}
-
-// Whether every address of the span is open.
-pub fn all_open(board: Board, span: Span) -> bool
-    ensures { result ≡ all_from (is_open board) span.start.0 (span.end.0 - span.start.0) }
-{
-    let mut x = span.start;
-    while x.0 < span.end.0 {
-        if !is_open(board, x) {
-            return false;
+    // Whether every address of the span is open.
+    pub fn all_open(&self, span: Span) -> bool
+        ensures { result ≡ all_from (is_open self.now) span.start.0 (span.end.0 - span.start.0) }
+    {
+        let mut x = span.start;
+        while x.0 < span.end.0 && self.is_open(x) {
+            x = self.open_edge(x);
         }
-        x = open_edge(board, x);
+        span.end.0 <= x.0
     }
-    true
 }

@@ -6,20 +6,16 @@ ghost use Rattle.board.specs.Window.{window_checks, window_span};
 use address::{PhysAddr, Span};
 use answer::{Answer, Refusal};
 
-// The addresses of a window of len bytes from the address first on, or 4. A window longer than the top is refused before the
-// sum is made.
+// The addresses of a window of len bytes from the address first on, or 4. A sum that does not fit stays past the top.
 #[tactic(auto, unfolding(crate::specs::Window::window_checks, laws::specs::Checks::first_of))]
 pub fn check_window(first: u32, len: usize) -> Answer<Span>
     ensures { result ≡ first_of (window_checks first len) (window_span first len) }
 {
-    let n = len as u64;
-    if PhysAddr::TOP.0 < n {
-        return Err(Refusal::WindowPastTop);
-    }
-    let start = PhysAddr(first as u64);
-    let end = PhysAddr(start.0 + n);
+    let start = PhysAddr(u64::from(first));
+    let end = PhysAddr(start.0.saturating_add(len as u64));
     if end.past_top() {
-        return Err(Refusal::WindowPastTop);
+        Err(Refusal::WindowPastTop)
+    } else {
+        Ok(Span { start, end })
     }
-    Ok(Span { start, end })
 }

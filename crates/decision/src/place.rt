@@ -32,7 +32,7 @@ fn extent_open(board: Board, kernel: Kernel, i: usize) -> bool
     requires { i + 1 ≤ max_segments }
     ensures { result ≡ extent_open board kernel i }
 {
-    board::all_open(board, kernel::extent(kernel, i))
+    board.all_open(kernel::extent(kernel, i))
 }
 
 // The answer where `done` of n modules and the information block found room.

@@ -61,8 +61,8 @@ fn write_block<'a>(
 {
     let line = command_line::in_force(operator, submission);
     let pairs = memory_map::parse(map).unwrap();
-    let lower = usable::sizes::mem_lower(pairs);
-    let upper = usable::sizes::mem_upper(pairs);
+    let lower = usable::sizes::mem_lower(&pairs);
+    let upper = usable::sizes::mem_upper(&pairs);
     let at = start.offset_from(base);
     block::write::write_block(
         window, at, submission, layout, modules, map, line, start, lower, upper,

@@ -1,9 +1,9 @@
 // A memory map in the standard's pair form: check 5, and its pairs.
 #![tactic(auto)]
 
-ghost use Rattle.std.specs.Prelude.{◌≡◌, ◌||◌, ◌+◌, ◌^◌, ◌≤◌, ◌<◌, min, length};
-ghost use Rattle.memory_map.specs.Pairs.{kind_offset};
-ghost use Rattle.memory_map.specs.Map.{max_pairs, pair_at, too_small, past_end};
+ghost use Rattle.std.specs.Prelude.{◌≡◌, false, ◌||◌, ◌+◌, ◌^◌, ◌≤◌, ◌<◌, take, length, SomeIff};
+ghost use Rattle.memory_map.specs.Pairs.{kind_offset, next_offset};
+ghost use Rattle.memory_map.specs.Map.{pair_at, too_small, past_end};
 ghost use Rattle.memory_map.specs.Parse.{parsed_map, no_map};
 
 use answer::{Answer, Refusal};
@@ -25,7 +25,7 @@ const LENGTH_OFFSET: usize = 12;
 const KIND_OFFSET: usize = 20;
 
 // A stretch of memory: the addresses from base on, as many as length says, of one type, which is wide so that there is no gap.
-#[derive(Clone, Copy)]
+#[derive(Clone, Copy, Default)]
 pub struct Pair {
     pub base: u64,
     pub length: u64,
@@ -40,15 +40,12 @@ pub struct MemoryMap {
 }
 
 impl MemoryMap {
-    // How many pairs there are: the count, and no more than the array holds.
-    pub fn len(self) -> usize
-        ensures { result ≡ min self.count max_pairs }
+    // The pairs that are there: as many as the count says, and no more than the array holds.
+    pub fn pairs(&self) -> &[Pair]
+        ensures { result.now ≡ take self.now.count self.now.pairs }
     {
-        if self.count < MAX_PAIRS {
-            self.count
-        } else {
-            MAX_PAIRS
-        }
+        let count = self.count.min(MAX_PAIRS);
+        &self.pairs[..count]
     }
 }
 
@@ -56,46 +53,35 @@ impl MemoryMap {
 pub fn parse(m: &[u8]) -> Answer<MemoryMap>
     ensures { result ≡ parsed_map m.now }
 {
-    if m.len() == 0 {
+    if m.is_empty() || MAX_MAP < m.len() {
         return Err(Refusal::BadMemoryMap);
     }
-    if MAX_MAP < m.len() {
-        return Err(Refusal::BadMemoryMap);
-    }
-    let empty = no_map();
-    let mut pairs = empty.pairs;
-    let mut count = 0;
+    let mut map = no_map();
     let mut at = 0;
+    // The walk goes by offset: the size of each pair says where the next begins.
     while at < m.len() {
-        if count == MAX_PAIRS {
+        let Some(next) = next_pair(m, at) else {
+            return Err(Refusal::BadMemoryMap);
+        };
+        if map.count == MAX_PAIRS {
             return Err(Refusal::BadMemoryMap);
         }
-        if broken(m, at) {
-            return Err(Refusal::BadMemoryMap);
-        }
-        pairs[count] = read_pair(m, at);
-        count += 1;
-        let size = number::read_u32(m, at) as usize;
-        at += size + SIZE_BYTES;
+        map.pairs[map.count] = read_pair(m, at);
+        map.count += 1;
+        at = next;
     }
-    Ok(MemoryMap { pairs, count })
+    Ok(map)
 }
 
-// Whether the pair at `at` is too small or runs past the end.
+// Where the next pair begins, unless the one at `at` is too small or runs past the end.
 #[tactic(auto, unfolding(crate::specs::Map::too_small, crate::specs::Map::past_end, crate::specs::Pairs::next_offset))]
-fn broken(m: &[u8], at: usize) -> bool
+fn next_pair(m: &[u8], at: usize) -> Option<usize>
     requires { at ≤ length m.now }
-    ensures { result ≡ too_small m.now at || past_end m.now at }
+    ensures { SomeIff result (too_small m.now at || past_end m.now at ≡ false) (next_offset m.now at) }
 {
-    let left = m.len() - at;
-    if left < SIZE_BYTES {
-        return true;
-    }
     let size = number::read_u32(m, at) as usize;
-    if size < MIN_PAIR_SIZE {
-        return true;
-    }
-    left < size + SIZE_BYTES
+    let next = at + size + SIZE_BYTES;
+    (MIN_PAIR_SIZE <= size && next <= m.len()).then_some(next)
 }
 
 // The pair at `at`.
@@ -115,13 +101,8 @@ fn read_pair(m: &[u8], at: usize) -> Pair
 fn no_map() -> MemoryMap
     ensures { result ≡ no_map }
 {
-    let none = Pair {
-        base: 0,
-        length: 0,
-        kind: 0,
-    };
     MemoryMap {
-        pairs: [none; MAX_PAIRS],
+        pairs: [Pair::default(); MAX_PAIRS],
         count: 0,
     }
 }

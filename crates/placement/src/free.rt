@@ -32,7 +32,7 @@ pub(crate) fn is_free(board: Board, taken: Spans, a: PhysAddr) -> bool
     if is_taken(taken, a) {
         return false;
     }
-    board::is_open(board, a)
+    board.is_open(a)
 }
 
 // The nearest edge of a span taken past x and before e, else e.
@@ -55,5 +55,5 @@ fn taken_edge(taken: Spans, x: PhysAddr, e: PhysAddr) -> PhysAddr
 pub(crate) fn free_edge(board: Board, taken: Spans, x: PhysAddr) -> PhysAddr
     ensures { result.0 ≡ free_edge board taken x.0 }
 {
-    taken_edge(taken, x, board::open_edge(board, x))
+    taken_edge(taken, x, board.open_edge(x))
 }

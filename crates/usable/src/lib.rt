@@ -19,64 +19,49 @@ pub const ADDRESS_SPACE: u64 = 0x100000000;
 
 // Whether the pair covers the address.
 #[tactic(auto, unfolding(crate::specs::Usable::covers, address::specs::Address::inside))]
-fn pair_covers(pair: Pair, a: PhysAddr) -> bool
-    ensures { result ≡ covers pair a.0 }
+fn pair_covers(pair: &Pair, a: PhysAddr) -> bool
+    ensures { result ≡ covers pair.now a.0 }
 {
-    if a.0 < pair.base {
-        return false;
-    }
-    a.0 - pair.base < pair.length
+    pair.base <= a.0 && a.0 - pair.base < pair.length
 }
 
 // Whether the address is usable: some pair of usable memory covers it, and no pair of another type does.
-pub fn is_usable(map: MemoryMap, a: PhysAddr) -> bool
-    ensures { result ≡ is_usable map a.0 }
+pub fn is_usable(map: &MemoryMap, a: PhysAddr) -> bool
+    ensures { result ≡ is_usable map.now a.0 }
 {
     if ADDRESS_SPACE <= a.0 {
         return false;
     }
-    let n = map.len();
     let mut found = false;
-    let mut i = 0;
-    while i < n {
-        let pair = map.pairs[i];
+    for pair in map.pairs() {
         if pair_covers(pair, a) {
-            if pair.kind == RAM {
-                found = true;
-            } else {
+            if pair.kind != RAM {
                 return false;
             }
+            found = true;
         }
-        i += 1;
     }
     found
 }
 
 // The nearest edge of a pair past x and before e, else e.
 #[tactic(auto, unfolding(edge::specs::Edge::span_edge, edge::specs::Edge::nearest))]
-fn pair_edge(pair: Pair, x: PhysAddr, e: PhysAddr) -> PhysAddr
-    ensures { result.0 ≡ span_edge pair.base (pair.base + pair.length) x.0 e.0 }
+fn pair_edge(pair: &Pair, x: PhysAddr, e: PhysAddr) -> PhysAddr
+    ensures { result.0 ≡ span_edge pair.now.base (pair.now.base + pair.now.length) x.0 e.0 }
 {
     let f = edge::nearer(x, e, PhysAddr(pair.base));
-    if pair.base < f.0 {
-        if pair.length < f.0 - pair.base {
-            return edge::nearer(x, f, PhysAddr(pair.base + pair.length));
-        }
+    match pair.base.checked_add(pair.length) {
+        Some(end) => edge::nearer(x, f, PhysAddr(end)),
+        None => f,
     }
-    f
 }
 
 // The nearest edge of a pair of the map, or of all addresses, past x and before e, else e.
-pub fn map_edge(map: MemoryMap, x: PhysAddr, e: PhysAddr) -> PhysAddr
-    ensures { result.0 ≡ map_edge map x.0 e.0 }
+pub fn map_edge(map: &MemoryMap, x: PhysAddr, e: PhysAddr) -> PhysAddr
+    ensures { result.0 ≡ map_edge map.now x.0 e.0 }
 {
-    let n = map.len();
-    let mut f = edge::nearer(x, e, PhysAddr(ADDRESS_SPACE));
-    let mut i = 0;
-    while i < n {
-        let pair = map.pairs[i];
-        f = pair_edge(pair, x, f);
-        i += 1;
-    }
-    f
+    let end = edge::nearer(x, e, PhysAddr(ADDRESS_SPACE));
+    map.pairs()
+        .iter()
+        .fold(end, |f, pair| pair_edge(pair, x, f))
 }

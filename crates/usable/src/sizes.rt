@@ -15,14 +15,11 @@ const KIB: u64 = 1024;
 const MAX_MEM_LOWER: u64 = 640;
 
 // The number of consecutive usable addresses from start on.
-fn usable_run(map: MemoryMap, start: PhysAddr) -> u64
-    ensures { result ≡ run (is_usable map) start.0 (address_space - start.0) }
+fn usable_run(map: &MemoryMap, start: PhysAddr) -> u64
+    ensures { result ≡ run (is_usable map.now) start.0 (address_space - start.0) }
 {
     let mut x = start;
-    while x.0 < ADDRESS_SPACE {
-        if !is_usable(map, x) {
-            return x.0 - start.0;
-        }
+    while is_usable(map, x) {
         x = map_edge(map, x, PhysAddr(ADDRESS_SPACE));
     }
     x.0 - start.0
@@ -30,20 +27,15 @@ fn usable_run(map: MemoryMap, start: PhysAddr) -> u64
 
 // The size of lower memory in whole KiB.
 #[tactic(auto, unfolding(crate::specs::Sizes::mem_lower))]
-pub fn mem_lower(map: MemoryMap) -> u32
-    ensures { result ≡ mem_lower map }
+pub fn mem_lower(map: &MemoryMap) -> u32
+    ensures { result ≡ mem_lower map.now }
 {
-    let size = usable_run(map, PhysAddr(0)) / KIB;
-    if size < MAX_MEM_LOWER {
-        size as u32
-    } else {
-        MAX_MEM_LOWER as u32
-    }
+    (usable_run(map, PhysAddr(0)) / KIB).min(MAX_MEM_LOWER) as u32
 }
 
 // The size of upper memory in whole KiB.
-pub fn mem_upper(map: MemoryMap) -> u32
-    ensures { result ≡ mem_upper map }
+pub fn mem_upper(map: &MemoryMap) -> u32
+    ensures { result ≡ mem_upper map.now }
 {
     (usable_run(map, PhysAddr::FLOOR) / KIB) as u32
 }

@@ -1,10 +1,6 @@
--- `usable::is_usable` meets its contract. The loop's invariant: after i pairs what these say of the address is known.
-use Rattle.std.proofs.Common.{◌-◌, ◌≤◌}
+-- `usable::is_usable` meets its contract. The loop's invariant: after so many pairs what these say of the address is known.
 use Rattle.usable.proofs.ScanLaws.{Scanned}
 use Rattle.usable.proofs.is_usable.Given as goal
 
-abbrev pub invariant-loop-i : goal.invariant-loop-i
-invariant-loop-i l = (l.i ≤ l.n) × Scanned l.map l.a.0 l.i l.found
-
-abbrev pub decreases-loop-i : goal.decreases-loop-i
-decreases-loop-i l = l.n - l.i
+abbrev pub invariant-loop-pair : goal.invariant-loop-pair
+invariant-loop-pair l = Scanned l.map l.a.0 l.pair-index l.found

@@ -1,18 +1,14 @@
 -- `usable::map_edge` meets its contract.
-use Rattle.std.proofs.Common.{◌≡◌, sym, ap, ◌∙◌, arith, rules, length}
-use Rattle.edge.specs.Edge.{span_edge}
-use Rattle.edge.specs.EdgeLaws.{edge_none, edge_more}
-use Rattle.memory_map.specs.Map.{max_pairs}
-use Rattle.usable.proofs.ScanLaws.{edge_end}
+use Rattle.std.proofs.Common.{◌≡◌, refl, rules, fold, List, Bor}
+use Rattle.std.proofs.lemmas.Fn.{fold_over, slice_gives, fronts}
+use Rattle.address.specs.declared.PhysAddr.{PhysAddr}
+use Rattle.memory_map.specs.declared.Pair.{Pair}
+use Rattle.usable.proofs.ScanLaws.{with_pair, fold_more_pair, edge_end}
 use Rattle.usable.proofs.map_edge.Goals as goal
-
-pub loop-i-init : goal.loop-i-init
-loop-i-init c = (omega arith, sym (edge_none _ _ _ _))
-
-pub loop-i-preserved : goal.loop-i-preserved
-loop-i-preserved c = (omega arith, c.pair_edge-f.ensures ∙ (ap (span_edge _ _ _) c.loop-i.invariant.1 ∙ sym (edge_more _ _ _ _ _)))
 
 pub returns : goal.returns
 returns c =
-    let n : length c.args.map.pairs ≡ max_pairs = search rules in
-    edge_end c.args.map c.args.x.0 c.args.e.0 _ _ c.loop-i.i n (omega arith) (omega arith) c.nearer-f.ensures c.loop-i.invariant.1
+    let h : c.fold.result.0 ≡ fold (with_pair c.args.x.0) c.nearer-end.result.0 c.iter.result.rest.now =
+    fold_over fronts (λ (p : Bor Pair). p.now) _ (λ (ps : List Pair) (f : PhysAddr). f.0 ≡ fold (with_pair c.args.x.0) c.nearer-end.result.0 ps) _
+    (λ ps a p b f j k. search (rules, fold_more_pair)) c.iter.result _ _ _ (slice_gives c.iter.result) refl c.fold.ensures.ran in
+    edge_end _ _ _ _ _ c.nearer-end.ensures (rw (c.iter.ensures.rest, c.pairs.ensures) at h)
