@@ -2,13 +2,14 @@
 --     computed, place_computes        one item, by the walk from edge to edge
 --     computed_from, items_compute    items in order
 -- Assumes nothing.
-use Rattle.std.specs.Prelude.{◌≡◌, true, false, cond, leb, ltb}
+use Rattle.std.specs.Prelude.{◌≡◌, true, false, cond, leb, ltb, Option, Some, None}
 use Rattle.std.proofs.Math.Path.{refl, sym}
 use Rattle.std.proofs.Math.Logic.{⊎_elim}
 use Prim.Native.Nat.{ℕ, zero, suc, ◌+◌, ◌-◌, ◌≤◌}
 use Rattle.std.proofs.Common.{arith}
 use borrow.Author.Tests.{lt-ltb, le-ltb, le-leb, lt-leb}
 use Rattle.laws.proofs.TestLaws.{true_or_false, lt_or_le}
+use Rattle.address.specs.declared.PhysAddr.{PhysAddr}
 use Rattle.address.specs.Address.{floor, page, round_up, boundary_of}
 use Rattle.usable.specs.Usable.{address_space}
 use Rattle.board.specs.declared.Board.{Board}
@@ -16,8 +17,6 @@ use Rattle.board.specs.Open.{is_open}
 use Rattle.placement.specs.declared.Spans.{Spans}
 use Rattle.placement.specs.declared.Item.{Item}
 use Rattle.placement.specs.declared.Items.{Items}
-use Rattle.placement.specs.declared.Place.{Place}
-use Rattle.placement.specs.declared.Place.TheVariants.{At, NoRoom}
 use Rattle.placement.specs.declared.Placed.{Placed}
 use Rattle.placement.specs.Free.{is_free}
 use Rattle.placement.specs.FreeEdge.{free_edge}
@@ -27,16 +26,16 @@ use Rattle.placement.proofs.StepLaws.{Walked, step_start, step_on, step_past, st
 
 module _ (b : Board) (t : Spans) (q : Item) where
   -- from the candidate a, with x reached; k bounds the steps
-  unfoldable pub walk : ℕ → ℕ → ℕ → Place
-  walk zero a x = cond (under_ceiling q a) (cond (ltb (x - a) q.length) NoRoom (At (record { 0 = a }))) NoRoom
+  unfoldable pub walk : ℕ → ℕ → ℕ → Option PhysAddr
+  walk zero a x = cond (under_ceiling q a) (cond (ltb (x - a) q.length) None (Some (record { 0 = a }))) None
   walk (suc k) a x =
       let e = free_edge b t x in
       let on = walk k a e in
       let past = walk k (round_up e (boundary_of q.pages)) (round_up e (boundary_of q.pages)) in
-      let step = cond (leb b.window.end.0 x) NoRoom (cond (is_free (is_open b) t x) on past) in
-      cond (under_ceiling q a) (cond (ltb (x - a) q.length) step (At (record { 0 = a }))) NoRoom
+      let step = cond (leb b.window.end.0 x) None (cond (is_free (is_open b) t x) on past) in
+      cond (under_ceiling q a) (cond (ltb (x - a) q.length) step (Some (record { 0 = a }))) None
 
-  unfoldable pub computed : Place
+  unfoldable pub computed : Option PhysAddr
   computed = walk b.window.end.0 (round_up floor (boundary_of q.pages)) (round_up floor (boundary_of q.pages))
 
   module _ (small : b.window.end.0 + page ≤ address_space) where
@@ -86,9 +85,9 @@ module _ (b : Board) (q : Items) where
       (record { spans = t; done = i })
 
   module _ (small : b.window.end.0 + page ≤ address_space) where
-    after_same : (p : Place) (f g : _ → Placed) (s : Placed) → ((a : _) → f a ≡ g a) → after p f s ≡ after p g s
-    after_same (At a) f g s h = h a
-    after_same NoRoom f g s h = refl
+    after_same : (p : Option PhysAddr) (f g : _ → Placed) (s : Placed) → ((a : _) → f a ≡ g a) → after p f s ≡ after p g s
+    after_same (Some a) f g s h = h a
+    after_same None f g s h = refl
 
     from_computes : (k i : ℕ) (t : Spans) → i + k ≤ q.count → placed_from (is_open b) q k i t ≡ computed_from k i t
     unfolding placed_from computed_from

@@ -21,12 +21,13 @@ pub fn extents(kernel: Kernel) -> Spans
     ensures { result ≡ extents_of kernel }
 {
     let mut list = [Span::none(); placement::MAX_SPANS];
-    let mut i = 0;
-    while i < kernel.count {
-        list[i] = kernel::extent(kernel, i);
-        i += 1;
+    for (i, segment) in kernel.segments[..kernel.count].iter().enumerate() {
+        list[i] = segment.extent();
     }
-    Spans { list, count: i }
+    Spans {
+        list,
+        count: kernel.count,
+    }
 }
 
 // The modules of a submission, on pages or not, and an information block of `size` bytes, as items.
@@ -40,19 +41,18 @@ pub fn items(layout: Layout, pages: bool, size: u64) -> Items
         ceiling: PhysAddr(0),
     };
     let mut list = [none; placement::MAX_ITEMS];
-    let mut i = 0;
-    while i <= layout.count {
-        list[i] = item(layout, pages, size, i);
-        i += 1;
+    let count = layout.count + 1;
+    for i in 0..count {
+        list[i] = item(&layout, pages, size, i);
     }
-    Items { list, count: i }
+    Items { list, count }
 }
 
 // The item of an index: a module, or behind the last one the information block.
 #[tactic(auto, unfolding(crate::specs::LoadItems::load_item))]
-fn item(layout: Layout, pages: bool, size: u64, i: usize) -> Item
-    requires { (layout.count ≤ max_modules) × (i ≤ layout.count) }
-    ensures { result ≡ load_item layout pages size i }
+fn item(layout: &Layout, pages: bool, size: u64, i: usize) -> Item
+    requires { (layout.now.count ≤ max_modules) × (i ≤ layout.now.count) }
+    ensures { result ≡ load_item layout.now pages size i }
 {
     if i < layout.count {
         let m = layout.modules[i];
@@ -86,10 +86,8 @@ pub fn module_spans(spans: Spans, from: usize, count: usize) -> [Span; submissio
     ensures { result ≡ module_spans spans from count }
 {
     let mut list = [Span::none(); submission::MAX_MODULES];
-    let mut i = 0;
-    while i < count {
-        list[i] = spans.list[from + i];
-        i += 1;
+    for (i, span) in spans.list[from..from + count].iter().enumerate() {
+        list[i] = *span;
     }
     list
 }

@@ -2,7 +2,7 @@
 --     in_order       placing the items in order leaves what InOrder says, over any test of open addresses that ends at 2^32
 --     placed_open    over the memory of a board each item lies in open memory
 -- Assumes nothing.
-use Rattle.std.specs.Prelude.{◌≡◌, Bool, true, ◌⊎◌, ◌↔◌, ℕ, zero, suc, ◌+◌, ◌-◌, ◌≤◌, ◌<◌, length}
+use Rattle.std.specs.Prelude.{◌≡◌, Bool, true, ◌⊎◌, ◌↔◌, ℕ, zero, suc, ◌+◌, ◌-◌, ◌≤◌, ◌<◌, length, Option, Some, None}
 use Rattle.std.proofs.Math.Path.{refl}
 use Rattle.std.proofs.Common.{sym, ◌∙◌, subst₂, ⊎_elim, inl, inr, add-zero, eq-or-lt_of_le, arith}
 use Rattle.address.specs.declared.PhysAddr.{PhysAddr}
@@ -14,8 +14,6 @@ use Rattle.board.specs.Open.{is_open}
 use Rattle.board.proofs.OpenLaws.{OpenOn, open_is, open_below}
 use Rattle.placement.specs.declared.Spans.{Spans}
 use Rattle.placement.specs.declared.Items.{Items}
-use Rattle.placement.specs.declared.Place.{Place}
-use Rattle.placement.specs.declared.Place.TheVariants.{At, NoRoom}
 use Rattle.placement.specs.declared.Placed.{Placed}
 use Rattle.placement.specs.InOrder.{ItemSuits, ItemStands, InOrder, up_to}
 use Rattle.placement.specs.Lowest.{lowest_place}
@@ -23,9 +21,9 @@ use Rattle.placement.proofs.LowestLaws.{place_lowest, no_room}
 use Rattle.placement.specs.Order.{item_no, span_of, with_span, placed_from, place_items}
 use Rattle.placement.proofs.OrderLaws.{with_count, with_length, with_keeps, with_new, suits_fewer}
 
-place_cases : (p : Place) → ((a : PhysAddr) × (p ≡ At a)) ⊎ (p ≡ NoRoom)
-place_cases (At a) = inl (a, refl)
-place_cases NoRoom = inr refl
+place_cases : (p : Option PhysAddr) → ((a : PhysAddr) × (p ≡ Some a)) ⊎ (p ≡ None)
+place_cases (Some a) = inl (a, refl)
+place_cases None = inr refl
 
 -- what placing k items from the item i on leaves
 record From (o : ℕ → Bool) (q : Items) (k i : ℕ) (t : Spans) (r : Placed) : Type 0 where
@@ -41,16 +39,16 @@ module _ (o : ℕ → Bool) (small : (a : ℕ) → o a ≡ true → a < address_
   unfolding placed_from
   step_end i t = refl
 
-  step_none : (k i : ℕ) (t : Spans) → lowest_place o t (item_no q i) ≡ NoRoom → placed_from o q (suc k) i t ≡ record { spans = t; done = i }
+  step_none : (k i : ℕ) (t : Spans) → lowest_place o t (item_no q i) ≡ None → placed_from o q (suc k) i t ≡ record { spans = t; done = i }
   unfolding placed_from
   step_none k i t e = rw e
 
-  step_at : (k i : ℕ) (t : Spans) (a : PhysAddr) → lowest_place o t (item_no q i) ≡ At a → placed_from o q (suc k) i t ≡ placed_from o q k (i + 1) (with_span t (span_of a (item_no q i).length))
+  step_at : (k i : ℕ) (t : Spans) (a : PhysAddr) → lowest_place o t (item_no q i) ≡ Some a → placed_from o q (suc k) i t ≡ placed_from o q k (i + 1) (with_span t (span_of a (item_no q i).length))
   unfolding placed_from
   step_at k i t a e = rw e
 
   -- the item i has the place a, and placing the rest leaves r
-  module _ (k i : ℕ) (t : Spans) (a : PhysAddr) (r : Placed) (e : lowest_place o t (item_no q i) ≡ At a) (n : i < q.count) (room : t.count < length t.list) (h : From o q k (i + 1) (with_span t (span_of a (item_no q i).length)) r) where
+  module _ (k i : ℕ) (t : Spans) (a : PhysAddr) (r : Placed) (e : lowest_place o t (item_no q i) ≡ Some a) (n : i < q.count) (room : t.count < length t.list) (h : From o q k (i + 1) (with_span t (span_of a (item_no q i).length)) r) where
     keeps : (j : ℕ) → j < t.count → span_no r.spans.list j ≡ span_no t.list j
     keeps j l = h.kept j (omega (arith, with_count t (span_of a (item_no q i).length))) ∙ with_keeps t (span_of a (item_no q i).length) j l
 
@@ -90,13 +88,13 @@ module _ (o : ℕ → Bool) (small : (a : ℕ) → o a ≡ true → a < address_
       (record { least = omega arith; most = omega arith; count = refl; kept = λ j l. refl; stands = λ j l. absurd (omega arith); stopped = λ l. absurd (omega arith) })
   from (suc k) i t room n =
       ⊎_elim
-      (λ (p : (a : PhysAddr) × (lowest_place o t (item_no q i) ≡ At a)).
+      (λ (p : (a : PhysAddr) × (lowest_place o t (item_no q i) ≡ Some a)).
       let s : Span = span_of p.0 (item_no q i).length in
       let c = with_count t s in
       let l = with_length t s in
       rw (step_at k i t p.0 p.1)
       (from_step k i t p.0 _ p.1 (omega arith) (omega arith) (from k (i + 1) (with_span t s) (omega arith) (omega arith))))
-      (λ (e : lowest_place o t (item_no q i) ≡ NoRoom).
+      (λ (e : lowest_place o t (item_no q i) ≡ None).
       rw (step_none k i t e)
       (record {
         least = omega arith;

@@ -3,7 +3,7 @@
 --     step_found, step_end, step_ceiling    the place is found; there is no room in the window; there is none under the ceiling
 --     round_small                           what is rounded up stays below 2^32
 -- Assumes nothing.
-use Rattle.std.specs.Prelude.{◌≡◌, true, false, ℕ, ◌+◌, ◌-◌, ◌≤◌, ◌<◌}
+use Rattle.std.specs.Prelude.{◌≡◌, true, false, ℕ, ◌+◌, ◌-◌, ◌≤◌, ◌<◌, Some, None}
 use Rattle.std.proofs.Math.Path.{sym}
 use Rattle.std.proofs.Common.{ap, arith}
 use Rattle.address.specs.Address.{floor, page, round_up, boundary_of}
@@ -13,7 +13,6 @@ use Rattle.board.specs.declared.Board.{Board}
 use Rattle.board.specs.Open.{is_open}
 use Rattle.placement.specs.declared.Spans.{Spans}
 use Rattle.placement.specs.declared.Item.{Item}
-use Rattle.placement.specs.declared.Place.TheVariants.{At, NoRoom}
 use Rattle.placement.specs.Free.{is_free}
 use Rattle.placement.specs.FreeEdge.{free_edge}
 use Rattle.placement.proofs.FreeEdgeLaws.{free_edge_at, free_end}
@@ -48,18 +47,18 @@ module _ (b : Board) (t : Spans) (q : Item) (small : b.window.end.0 + page ≤ a
         rw z (omega arith, tried_past _ q a x e (omega arith) (omega arith) w g f)
 
   module _ (a x : ℕ) (w : Walked b t q a x) where
-    pub step_found : under_ceiling q a ≡ true → q.length ≤ x - a → At (record { 0 = a }) ≡ lowest_place (is_open b) t q
+    pub step_found : under_ceiling q a ≡ true → q.length ≤ x - a → Some (record { 0 = a }) ≡ lowest_place (is_open b) t q
     unfolding lowest_place
     step_found u l =
         let c = w.clear in
         sym (ap place_of (tried_found _ q a x w (omega arith) u))
 
-    pub step_end : x - a < q.length → b.window.end.0 ≤ x → NoRoom ≡ lowest_place (is_open b) t q
+    pub step_end : x - a < q.length → b.window.end.0 ≤ x → None ≡ lowest_place (is_open b) t q
     unfolding lowest_place
     step_end short l =
         let c = w.clear in
         sym (ap place_of (tried_end _ q a x (omega arith) w (λ y u. free_end b t y (omega arith))))
 
-    pub step_ceiling : under_ceiling q a ≡ false → NoRoom ≡ lowest_place (is_open b) t q
+    pub step_ceiling : under_ceiling q a ≡ false → None ≡ lowest_place (is_open b) t q
     unfolding lowest_place
     step_ceiling u = sym (ap place_of (tried_ceiling _ q a x w u))

@@ -9,51 +9,34 @@ use address::PhysAddr;
 use board::Board;
 
 // Whether the address lies in a span taken.
-fn is_taken(taken: Spans, a: PhysAddr) -> bool
-    ensures { result ≡ is_taken taken a.0 }
+fn is_taken(taken: &Spans, a: PhysAddr) -> bool
+    ensures { result ≡ is_taken taken.now a.0 }
 {
-    let n = taken.len();
-    let mut i = 0;
-    while i < n {
-        let span = taken.list[i];
-        if span.contains(a) {
-            return true;
-        }
-        i += 1;
-    }
-    false
+    taken.spans().iter().any(|span| span.contains(a))
 }
 
 // Whether the address is free.
 #[tactic(auto, unfolding(crate::specs::Free::is_free))]
-pub(crate) fn is_free(board: Board, taken: Spans, a: PhysAddr) -> bool
-    ensures { result ≡ is_free (is_open board) taken a.0 }
+pub(crate) fn is_free(board: &Board, taken: &Spans, a: PhysAddr) -> bool
+    ensures { result ≡ is_free (is_open board.now) taken.now a.0 }
 {
-    if is_taken(taken, a) {
-        return false;
-    }
-    board.is_open(a)
+    board.is_open(a) && !is_taken(taken, a)
 }
 
 // The nearest edge of a span taken past x and before e, else e.
-fn taken_edge(taken: Spans, x: PhysAddr, e: PhysAddr) -> PhysAddr
-    ensures { result.0 ≡ taken_edge taken x.0 e.0 }
+fn taken_edge(taken: &Spans, x: PhysAddr, e: PhysAddr) -> PhysAddr
+    ensures { result.0 ≡ taken_edge taken.now x.0 e.0 }
 {
-    let n = taken.len();
-    let mut f = e;
-    let mut i = 0;
-    while i < n {
-        let span = taken.list[i];
-        f = edge::span_edge(span, x, f);
-        i += 1;
-    }
-    f
+    taken
+        .spans()
+        .iter()
+        .fold(e, |f, span| edge::span_edge(*span, x, f))
 }
 
 // The nearest edge of the board or a span taken past x: up to it all addresses are free, or none is.
 #[tactic(auto, unfolding(crate::specs::FreeEdge::free_edge))]
-pub(crate) fn free_edge(board: Board, taken: Spans, x: PhysAddr) -> PhysAddr
-    ensures { result.0 ≡ free_edge board taken x.0 }
+pub(crate) fn free_edge(board: &Board, taken: &Spans, x: PhysAddr) -> PhysAddr
+    ensures { result.0 ≡ free_edge board.now taken.now x.0 }
 {
     taken_edge(taken, x, board.open_edge(x))
 }

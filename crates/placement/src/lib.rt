@@ -1,8 +1,9 @@
 // Placement: the items of a load, each at the lowest address at which it lies wholly in open memory that is not taken.
 #![tactic(auto)]
 
-ghost use Rattle.std.specs.Prelude.{◌≡◌, min};
+ghost use Rattle.std.specs.Prelude.{◌≡◌, ◌<◌, take};
 ghost use Rattle.placement.specs.Free.{max_spans};
+ghost use Rattle.placement.specs.Order.{with_span};
 
 use address::{PhysAddr, Span};
 
@@ -24,15 +25,21 @@ pub struct Spans {
 }
 
 impl Spans {
-    // How many spans there are: the count, and no more than the array holds.
-    fn len(self) -> usize
-        ensures { result ≡ min self.count max_spans }
+    // The spans there are: the first `count` of the array, or all that it holds.
+    fn spans(&self) -> &[Span]
+        ensures { result.now ≡ take self.now.count self.now.list }
     {
-        if self.count < MAX_SPANS {
-            self.count
-        } else {
-            MAX_SPANS
-        }
+        &self.list[..self.count.min(MAX_SPANS)]
+    }
+
+    // One span more.
+    #[tactic(auto, unfolding(crate::specs::Order::with_span))]
+    fn push(&mut self, span: Span)
+        requires { self.old.count < max_spans }
+        ensures { self.new ≡ with_span self.old span }
+    {
+        self.list[self.count] = span;
+        self.count += 1;
     }
 }
 
@@ -49,13 +56,6 @@ pub struct Item {
 pub struct Items {
     pub list: [Item; MAX_ITEMS],
     pub count: usize,
-}
-
-// Where an item goes.
-#[derive(Clone, Copy)]
-pub enum Place {
-    At(PhysAddr),
-    NoRoom,
 }
 
 // The spans taken with those of the items placed, and how many items were placed: all, or those before the first with no room.

@@ -1,25 +1,21 @@
 -- `items::extents` meets its contract.
-use Rattle.std.proofs.Common.{rules, ◌≡◌, ◌<◌, ◌∙◌, ap, arith, replicate}
+use Rattle.std.proofs.Common.{◌≡◌, ◌<◌, ◌∙◌, ap, arith, replicate}
+use Rattle.std.proofs.lemmas.List.{get_or-take}
 use Rattle.laws.proofs.TableLaws.{table_none, table_more}
 use Rattle.address.specs.Span.{no_span}
-use Rattle.kernel.specs.Kernel.{extent_no}
+use Rattle.kernel.specs.Kernel.{no_segment, extent_no}
 use Rattle.placement.specs.Free.{max_spans}
 use Rattle.items.specs.LoadItems.{extents_of}
 use Rattle.items.proofs.extents.Goals as goal
 
 pub loop-i-init : goal.loop-i-init
-loop-i-init c = record {
-  within = search rules;
-  filled = ap (replicate max_spans) c.none-list.ensures ∙ table_none _ max_spans no_span;
-}
+loop-i-init c = ap (replicate max_spans) c.none-list.ensures ∙ table_none _ max_spans no_span
 
 pub loop-i-preserved : goal.loop-i-preserved
 loop-i-preserved c =
     let room : c.loop-i.i < max_spans = omega arith in
-    record {
-      within = omega arith;
-      filled = cc (table_more (extent_no c.args.kernel) max_spans no_span c.loop-i.i room);
-    }
+    let l : c.loop-i.i < c.args.kernel.count = omega arith in
+    cc (get_or-take c.args.kernel.count c.args.kernel.segments c.loop-i.i no_segment l, table_more (extent_no c.args.kernel) max_spans no_span c.loop-i.i room)
 
 pub returns : goal.returns
 unfolding extents_of

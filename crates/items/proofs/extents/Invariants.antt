@@ -1,5 +1,5 @@
 -- `items::extents` meets its contract: the loop fills a table.
-use Rattle.std.proofs.Common.{◌≡◌, ◌-◌, ◌≤◌}
+use Rattle.std.proofs.Common.{◌≡◌}
 use Rattle.laws.specs.Table.{table}
 use Rattle.address.specs.Span.{no_span}
 use Rattle.kernel.specs.Kernel.{extent_no}
@@ -7,10 +7,4 @@ use Rattle.placement.specs.Free.{max_spans}
 use Rattle.items.proofs.extents.Given as goal
 
 abbrev pub invariant-loop-i : goal.invariant-loop-i
-invariant-loop-i l = record {
-  within : l.i ≤ l.kernel.count;
-  filled : l.list ≡ table (extent_no l.kernel) l.i max_spans no_span;
-}
-
-abbrev pub decreases-loop-i : goal.decreases-loop-i
-decreases-loop-i l = l.kernel.count - l.i
+invariant-loop-i l = l.list ≡ table (extent_no l.fn.kernel) l.i max_spans no_span

@@ -1,23 +1,17 @@
 -- `items::items` meets its contract.
-use Rattle.std.proofs.Common.{rules, ◌≡◌, ◌<◌, ◌+◌, arith}
+use Rattle.std.proofs.Common.{◌≡◌, ◌<◌, ◌+◌, arith}
 use Rattle.laws.proofs.TableLaws.{table_none, table_more}
 use Rattle.placement.specs.Order.{max_items, no_item}
 use Rattle.items.specs.LoadItems.{load_item, items_of}
 use Rattle.items.proofs.items.Goals as goal
 
 pub loop-i-init : goal.loop-i-init
-loop-i-init c = record {
-  within = search rules;
-  filled = table_none _ max_items no_item;
-}
+loop-i-init c = table_none _ max_items no_item
 
 pub loop-i-preserved : goal.loop-i-preserved
 loop-i-preserved c =
     let room : c.loop-i.i < max_items = omega arith in
-    record {
-      within = omega arith;
-      filled = cc (table_more (load_item c.args.layout c.args.pages c.args.size) max_items no_item c.loop-i.i room);
-    }
+    cc (table_more (load_item c.args.layout c.args.pages c.args.size) max_items no_item c.loop-i.i room)
 
 pub returns : goal.returns
 unfolding items_of
