@@ -17,10 +17,12 @@ use Rattle.submission.specs.declared.Layout.{Layout}
 use Rattle.submission.specs.Layout.{no_module, module_no, bytes_of}
 use Rattle.submission.specs.FormatLaws.{length-bytes_of}
 use Rattle.block.specs.declared.Structure.{Structure}
-use Rattle.block.specs.Block.{structure_size, structure_words, loader_name, map_offset, strings_offset, structure_for, parts_of, block_of, contents_of, module_entry_size, address_of, text_bytes, texts_size, entry_words, entries, texts, string_lengths}
+use Rattle.block.specs.declared.size.Offsets.{Offsets}
+use Rattle.block.specs.declared.write.Block.{Block}
+use Rattle.block.specs.Block.{structure_size, structure_words, loader_name, map_offset, strings_offset, structure_for, parts_of, block_of, module_entry_size, address_of, text_bytes, texts_size, entry_words, entries, texts, string_lengths}
 use Rattle.block.specs.TextSize.{text_size}
 use Rattle.block.specs.TextLaws.{length-text_bytes, text_some, texts_more, entries_more, length_entries, strings_turn}
-use Rattle.block.specs.Writing.{module_entry_no, entries_of, strings_of, StringsIn}
+use Rattle.block.specs.Writing.{module_entry_no, entries_of, strings_of, StringsIn, says, PartsStand}
 use Rattle.block.specs.WritingLaws.{entry_texts, block_is, length_strings}
 
 -- a text that is not empty, and its zero
@@ -59,7 +61,7 @@ entry_written w at l spans n a i next x u v h d f p q =
     rw (q, p, f, d, ← e, patched-append, listed_more, entries_more, entry_texts, word_bytes_append, get_or-take) refl
 
 -- the entries behind the structure
-pub tables_written : (w : List ℕ) (at : ℕ) (st : Structure) (words es u v : List ℕ)
+tables_written : (w : List ℕ) (at : ℕ) (st : Structure) (words es u v : List ℕ)
     → words ≡ structure_words st → u ≡ patched w at (word_bytes words) → v ≡ patched u (at + structure_size) (word_bytes es)
     → v ≡ patched w at (word_bytes (structure_words st ++ es))
 unfolding structure_words
@@ -68,24 +70,41 @@ tables_written w at st words es u v f p q =
     rw (q, p, f, ← e, patched-append, word_bytes_append) refl
 
 -- map, name, command line and strings, one behind the other
-pub parts_written : (w : List ℕ) (at : ℕ) (m line : List ℕ) (ss : List (List ℕ)) (strings : ℕ) (t u v x : List ℕ)
-    → strings ≡ at + length m + length loader_name + text_size (length line)
-    → t ≡ patched w at m → u ≡ patched t (at + length m) loader_name → v ≡ patched u (at + length m + length loader_name) (text_bytes line)
+parts_written : (w : List ℕ) (at : ℕ) (m line : List ℕ) (ss : List (List ℕ)) (name text strings : ℕ) (t u v x : List ℕ)
+    → name ≡ at + length m → text ≡ at + length m + length loader_name → strings ≡ at + length m + length loader_name + text_size (length line)
+    → t ≡ patched w at m → u ≡ patched t name loader_name → v ≡ patched u text (text_bytes line)
     → x ≡ patched v strings (texts ss)
     → x ≡ patched w at (parts_of m line ss)
 unfolding parts_of
-parts_written w at m line ss strings t u v x e a b c d =
-    rw (d, e, c, ← length-text_bytes line, patched-append u _ (text_bytes line) (texts ss), b, patched-append t _ loader_name _, a, patched-append) refl
+parts_written w at m line ss name text strings t u v x g f e a b c d =
+    rw (d, e, c, f, ← length-text_bytes line, patched-append u _ (text_bytes line) (texts ss), b, g, patched-append t _ loader_name _, a, patched-append) refl
 
 -- the parts behind the tables
-pub block_written : (w : List ℕ) (at : ℕ) (s : List ℕ) (l : Layout) (spans : List Span) (m line : List ℕ) (start lower upper : ℕ) (st : Structure) (strings rest : ℕ) (u v : List ℕ)
-    → StringsIn s l → st ≡ structure_for start lower upper l.count (length m) (length line)
-    → strings ≡ start + strings_offset l.count (length m) (length line) → rest ≡ at + map_offset l.count
-    → u ≡ patched w at (word_bytes (structure_words st ++ entries strings (entries_of l spans l.count)))
-    → v ≡ patched u rest (parts_of m line (strings_of s l l.count))
-    → v ≡ patched w at (block_of (contents_of s l spans m line start lower upper))
+parts_behind : (b : Block) (w : List ℕ) (at strings rest : ℕ) (st : Structure) (u v : List ℕ)
+    → StringsIn b.submission.now b.layout.now → st ≡ structure_for b.start.0 b.lower b.upper b.layout.now.count (length b.map.now) (length b.line.now)
+    → strings ≡ b.start.0 + strings_offset b.layout.now.count (length b.map.now) (length b.line.now) → rest ≡ at + map_offset b.layout.now.count
+    → u ≡ patched w at (word_bytes (structure_words st ++ entries strings (entries_of b.layout.now b.spans.now b.layout.now.count)))
+    → v ≡ patched u rest (parts_of b.map.now b.line.now (strings_of b.submission.now b.layout.now b.layout.now.count))
+    → v ≡ patched w at (block_of (says b))
 unfolding structure_words
-block_written w at s l spans m line start lower upper st strings rest u v h a b c d e =
-    let words = structure_words st ++ entries strings (entries_of l spans l.count) in
-    let k : length (word_bytes words) ≡ map_offset l.count = length_word_bytes words ∙ omega (arith, length-append (structure_words st) (entries strings (entries_of l spans l.count)), length_entries (entries_of l spans l.count) strings, length_listed (module_entry_no l spans) l.count) in
-    rw (e, c, ← k, d, patched-append, block_is s l spans m line start lower upper h, a, b) refl
+parts_behind b w at strings rest st u v h a g c d e =
+    let l = b.layout.now in
+    let es = entries_of l b.spans.now l.count in
+    let words = structure_words st ++ entries strings es in
+    let k : length (word_bytes words) ≡ map_offset l.count = length_word_bytes words ∙ omega (arith, length-append (structure_words st) (entries strings es), length_entries es strings, length_listed (module_entry_no l b.spans.now) l.count) in
+    rw (e, c, ← k, d, patched-append, block_is b.submission.now l b.spans.now b.map.now b.line.now b.start.0 b.lower b.upper h, a, g) refl
+
+-- a block, part behind part
+pub block_written : (b : Block) (at strings : ℕ) (o : Offsets) (st : Structure) (words w t u x y z v : List ℕ)
+    → StringsIn b.submission.now b.layout.now → PartsStand b.layout.now.count (length b.map.now) (length b.line.now) o
+    → st ≡ structure_for b.start.0 b.lower b.upper b.layout.now.count (length b.map.now) (length b.line.now)
+    → words ≡ structure_words st → strings ≡ b.start.0 + o.strings
+    → t ≡ patched w at (word_bytes words)
+    → u ≡ patched t (at + structure_size) (word_bytes (entries strings (entries_of b.layout.now b.spans.now b.layout.now.count)))
+    → x ≡ patched u (at + o.map) b.map.now → y ≡ patched x (at + o.name) loader_name → z ≡ patched y (at + o.line) (text_bytes b.line.now)
+    → v ≡ patched z (at + o.strings) (texts (strings_of b.submission.now b.layout.now b.layout.now.count))
+    → v ≡ patched w at (block_of (says b))
+block_written b at strings o st words w t u x y z v h p a f g d e m q r k =
+    parts_behind b w at strings (at + o.map) st u v h a (omega (arith, p.strings, g)) (omega (arith, p.map))
+    (tables_written w at st words _ t u f d e)
+    (parts_written u (at + o.map) b.map.now b.line.now _ (at + o.name) (at + o.line) (at + o.strings) x y z v (omega (arith, p)) (omega (arith, p)) (omega (arith, p)) m q r k)

@@ -8,7 +8,7 @@ use lib.ListN.{length, take, get_or}
 use lib.Seq.{get_or-take}
 use Rattle.laws.specs.Table.{listed}
 use Rattle.buffer.specs.Patched.{patched, zeros}
-use Rattle.buffer.specs.PatchedLaws.{length-patched, patched-append}
+use Rattle.buffer.specs.PatchedLaws.{patched-append}
 use Rattle.buffer.specs.Writes.{Write, written}
 use Rattle.buffer.specs.WritesLaws.{written_append}
 use Rattle.address.specs.declared.Span.{Span}
@@ -31,9 +31,6 @@ pub one_written : (d w v : List ℕ) (f : ℕ → Write) (i at : ℕ) (bytes : L
     → v ≡ written d (listed f (i + 1))
 unfolding written listed
 one_written d w v f i at bytes e p q h = rw (add-one i, written_append d (listed f i) (f i ∷ []), ← e, ← p, ← q) h
-
-pub same_size : (d w v : List ℕ) (at : ℕ) (bytes : List ℕ) → length w ≡ length d → v ≡ patched w at bytes → length v ≡ length d
-same_size d w v at bytes e h = rw (h, length-patched w at bytes) e
 
 -- bytes, and zeros behind them
 pub filled : (w u v : List ℕ) (at : ℕ) (bytes : List ℕ) (count : ℕ) → u ≡ patched w at bytes → v ≡ patched u (at + length bytes) (zeros count) → v ≡ patched w at (bytes ++ zeros count)

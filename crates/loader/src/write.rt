@@ -15,6 +15,7 @@ ghost use Rattle.loader.specs.Memory.{segment_write, module_write, contents_for,
 ghost use Rattle.loader.specs.Ready.{PlanOfLoad};
 
 use address::{PhysAddr, Span};
+use block::write::Block;
 use decision::Plan;
 use kernel::{Kernel, Segment};
 use submission::{Layout, Part};
@@ -61,12 +62,17 @@ fn write_block<'a>(
 {
     let line = command_line::in_force(operator, submission);
     let pairs = memory_map::parse(map).unwrap();
-    let lower = usable::sizes::mem_lower(&pairs);
-    let upper = usable::sizes::mem_upper(&pairs);
-    let at = start.offset_from(base);
-    block::write::write_block(
-        window, at, submission, layout, modules, map, line, start, lower, upper,
-    );
+    let block = Block {
+        submission,
+        layout: &layout,
+        spans: &modules,
+        map,
+        line,
+        start,
+        lower: usable::sizes::mem_lower(&pairs),
+        upper: usable::sizes::mem_upper(&pairs),
+    };
+    block.write(window, start.offset_from(base));
 }
 
 // Writes the kernel's segments: their load bytes, and zeros over the bss.

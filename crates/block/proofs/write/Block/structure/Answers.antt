@@ -1,11 +1,11 @@
--- `block::write::structure_for` meets its contract: each field is that of `structure_for`.
-use Rattle.std.proofs.Common.{refl, arith}
+-- `block::write::Block::structure` meets its contract: each field is that of `structure_for`.
+use Rattle.std.proofs.Common.{refl, length, arith}
 use Rattle.block.specs.Block.{structure_for}
 use Rattle.block.specs.TextLaws.{size_low}
-use Rattle.block.proofs.write.structure_for.Goals as goal
+use Rattle.block.proofs.write.Block.structure.Goals as goal
 
 pub text_address-requires : goal.text_address-requires
-text_address-requires c = omega (arith, size_low c.args.line_length)
+text_address-requires c = omega (arith, size_low (length c.args.self.now.line.now))
 
 pub returns : goal.returns
 unfolding structure_for
