@@ -16,6 +16,7 @@ all_front f a (suc n) =
     let e : a + 1 + n ≡ a + suc n = omega arith in
     rw (e, ← and_assoc, all_front f a n)
 
+-- the list of a range, tested as the range is
 range_all : (f : ℕ → Bool) (a n : ℕ) → list_all f (range_with_len a n) ≡ all_from f a n
 unfolding all_from
 range_all f a zero = refl
