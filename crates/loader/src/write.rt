@@ -103,6 +103,7 @@ fn write_segment(window: &mut [u8], base: PhysAddr, image: &[u8], segment: &Segm
 }
 
 // Writes bytes, and `count` zeros behind them.
+#[tactic(auto, using(buffer::specs::PatchedLaws::patched_past, crate::proofs::TurnLaws::filled))]
 fn write_filled(window: &mut [u8], at: usize, bytes: &[u8], count: usize)
     ensures { window.new ≡ patched window.old at (bytes.now ++ zeros count) }
 {
