@@ -2,4 +2,6 @@
 pub mod Report
 pub mod Text
 pub mod TextLaws
+pub mod Adds
+pub mod AddsLaws
 pub mod ReportLaws

@@ -2,14 +2,13 @@
 --     length_digits                  so many digits as asked for
 --     decimal_short                  no number has more than ten decimal digits
 --     length_field, length_fields    nine bytes for each field, and one for the end of the line
---     wrote_nothing                  no text
---     wrote_behind, wrote_row        two texts one behind the other, and a row more
+--     wrote_nothing, wrote_behind    no text, and two texts one behind the other
 -- Assumes nothing.
 use Rattle.std.specs.Prelude.{◌≡◌, refl, List, [], ◌∷◌, ◌++◌, ℕ, zero, suc, ◌+◌, ◌*◌, ◌/◌, ◌%◌, ◌≤◌, length, get_or}
 use Rattle.std.proofs.Common.{ap, sym, ◌∙◌, add-zero, arith, length-append, length-drop}
 use Rattle.buffer.specs.PatchedLaws.{patched-nil, patched-append}
 use Rattle.viertompu.specs.Joined.{joined}
-use Rattle.viertompu.specs.JoinedLaws.{length_joined, joined_more}
+use Rattle.viertompu.specs.JoinedLaws.{length_joined}
 use Rattle.report.specs.Text.{Wrote, newline, hex_length, decimal_length, glyph_of, digits_of, leading_zeros, decimal_text, field_text, fields_text}
 
 pub length_digits : (base k x : ℕ) → length (digits_of base k x) ≡ k
@@ -44,6 +43,3 @@ module _ (w : List ℕ) (at : ℕ) where
         holds = rw (b.holds, a.ends, a.holds) (patched-append w at t s);
         ends = omega (arith, length-append t s);
       }
-
-  pub wrote_row : (f : ℕ → List ℕ) (n : ℕ) (u v : List ℕ) (m r : ℕ) → Wrote w at (joined f n) u m → Wrote u m (f n) v r → Wrote w at (joined f (n + 1)) v r
-  wrote_row f n u v m r a b = rw joined_more (wrote_behind (joined f n) (f n) u v m r a b)

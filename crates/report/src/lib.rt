@@ -1,13 +1,13 @@
-// The report on a plan: a line for each segment and module and one for the information block, or one for a refusal. Each
-// function writes its text from an offset on and gives the offset behind it.
+// The report on a plan: a line for each segment and module and one for the information block, or one for a refusal.
 #![tactic(auto)]
 
-ghost use Rattle.std.specs.Prelude.{◌+◌, ◌*◌, ◌≤◌, ◌<◌, ◌^◌, length};
+ghost use Rattle.std.specs.Prelude.{◌++◌, ◌+◌, ◌*◌, ◌≤◌, ◌<◌, ◌^◌, length};
 ghost use Rattle.submission.specs.Format.{max_modules};
 ghost use Rattle.kernel.specs.Kernel.{max_segments};
 ghost use Rattle.viertompu.specs.Joined.{joined};
 ghost use Rattle.report.specs.Text.{Wrote};
-ghost use Rattle.report.specs.Report.{max_line_text, max_report, line_text, refusal_text, segment_line, module_line, report_of};
+ghost use Rattle.report.specs.Adds.{Adds};
+ghost use Rattle.report.specs.Report.{max_line_text, max_report, line_text, refusal_text, segment_line, module_line, info_line, report_of};
 
 use kernel::MAX_SEGMENTS;
 use submission::MAX_MODULES;
@@ -17,6 +17,9 @@ use viertompu::{
 };
 
 mod digits;
+mod writer;
+
+use writer::Writer;
 
 // No report is longer.
 pub const MAX_REPORT: usize = 1584;
@@ -26,90 +29,94 @@ pub fn write_report(text: &mut [u8], plan: &[u32; WORDS]) -> usize
     ensures wrote { Wrote text.old 0 (report_of plan.now) text.new result }
     ensures upper_bound { result ≤ max_report }
 {
-    if plan[NUMBER] != 0 {
-        return write_refusal(text, plan[NUMBER], plan[ITEM]);
+    let mut out = Writer { text, at: 0 };
+    if plan[NUMBER] == 0 {
+        write_load(&mut out, plan);
+    } else {
+        write_refusal(&mut out, plan[NUMBER], plan[ITEM]);
     }
-    let after_segments = write_segments(text, plan);
-    let after_modules = write_modules(text, after_segments, plan);
-    let fields = [plan[BLOCK_START], plan[BLOCK_END]];
-    write_line(text, after_modules, b"info", &fields)
+    out.at
+}
+
+// Writes the lines of a load.
+fn write_load(out: &mut Writer, plan: &[u32; WORDS])
+    requires { out.old.at + max_report < 2 ^ 64 }
+    ensures { Adds out.old (joined (segment_line plan.now) max_segments ++ joined (module_line plan.now) max_modules ++ info_line plan.now) out.new }
+{
+    write_segments(out, plan);
+    write_modules(out, plan);
+    write_line(out, b"info", &[plan[BLOCK_START], plan[BLOCK_END]]);
 }
 
 // Writes the number and the item of a refusal.
-fn write_refusal(text: &mut [u8], number: u32, item: u32) -> usize
-    ensures { Wrote text.old 0 (refusal_text number item) text.new result }
+fn write_refusal(out: &mut Writer, number: u32, item: u32)
+    requires { out.old.at + max_line_text < 2 ^ 64 }
+    ensures { Adds out.old (refusal_text number item) out.new }
 {
-    let after_word = write_text(text, 0, b"refused ");
-    let after_number = digits::write_decimal(text, after_word, number);
-    let after_blank = write_text(text, after_number, b" ");
-    let after_item = digits::write_decimal(text, after_blank, item);
-    write_text(text, after_item, b"\n")
+    out.bytes(b"refused ");
+    out.decimal(number);
+    out.bytes(b" ");
+    out.decimal(item);
+    out.bytes(b"\n");
 }
 
-// Writes a line for each segment.
-fn write_segments(text: &mut [u8], plan: &[u32; WORDS]) -> usize
-    ensures { Wrote text.old 0 (joined (segment_line plan.now) max_segments) text.new result }
+// Writes a line for each segment. Here and for the modules the loop is one call: a function over both would be longer than they are.
+fn write_segments(out: &mut Writer, plan: &[u32; WORDS])
+    requires { out.old.at + max_line_text * max_segments < 2 ^ 64 }
+    ensures { Adds out.old (joined (segment_line plan.now) max_segments) out.new }
 {
-    let mut next = 0;
-    let mut i = 0;
-    while i < MAX_SEGMENTS {
-        next = write_segment(text, next, plan, i);
-        i += 1;
+    for i in 0..MAX_SEGMENTS {
+        write_segment(out, plan, i);
     }
-    next
 }
 
 // Writes the line of a segment; a place whose segment ends at 0 has none.
-fn write_segment(text: &mut [u8], at: usize, plan: &[u32; WORDS], i: usize) -> usize
-    requires { (i < max_segments) × (at + max_line_text < 2 ^ 64) }
-    ensures { Wrote text.old at (segment_line plan.now i) text.new result }
+fn write_segment(out: &mut Writer, plan: &[u32; WORDS], i: usize)
+    requires { (i < max_segments) × (out.old.at + max_line_text < 2 ^ 64) }
+    ensures { Adds out.old (segment_line plan.now i) out.new }
 {
     let from = FIRST_SEGMENT + WORDS_PER_SEGMENT * i;
     let end = plan[from + 2];
-    if end == 0 {
-        return at;
+    if end != 0 {
+        write_line(
+            out,
+            b"kernel",
+            &[plan[from], plan[from + 1], end, plan[ENTRY]],
+        );
     }
-    let fields = [plan[from], plan[from + 1], end, plan[ENTRY]];
-    write_line(text, at, b"kernel", &fields)
 }
 
 // Writes a line for each module.
-fn write_modules(text: &mut [u8], at: usize, plan: &[u32; WORDS]) -> usize
-    requires { at + max_line_text * max_modules < 2 ^ 64 }
-    ensures { Wrote text.old at (joined (module_line plan.now) max_modules) text.new result }
+fn write_modules(out: &mut Writer, plan: &[u32; WORDS])
+    requires { out.old.at + max_line_text * max_modules < 2 ^ 64 }
+    ensures { Adds out.old (joined (module_line plan.now) max_modules) out.new }
 {
-    let mut next = at;
-    let mut i = 0;
-    while i < MAX_MODULES {
-        next = write_module(text, next, plan, i);
-        i += 1;
+    for i in 0..MAX_MODULES {
+        write_module(out, plan, i);
     }
-    next
 }
 
 // Writes the line of a module with its index; a place whose module ends at 0 has none.
-fn write_module(text: &mut [u8], at: usize, plan: &[u32; WORDS], i: usize) -> usize
-    requires { (i < max_modules) × (at + max_line_text < 2 ^ 64) }
-    ensures { Wrote text.old at (module_line plan.now i) text.new result }
+fn write_module(out: &mut Writer, plan: &[u32; WORDS], i: usize)
+    requires { (i < max_modules) × (out.old.at + max_line_text < 2 ^ 64) }
+    ensures { Adds out.old (module_line plan.now i) out.new }
 {
     let from = FIRST_MODULE + WORDS_PER_MODULE * i;
     let end = plan[from + 1];
-    if end == 0 {
-        return at;
+    if end != 0 {
+        out.bytes(b"module ");
+        out.decimal(i as u32);
+        out.fields(&[plan[from], end]);
     }
-    let after_word = write_text(text, at, b"module ");
-    let after_index = digits::write_decimal(text, after_word, i as u32);
-    let fields = [plan[from], end];
-    digits::write_fields(text, after_index, &fields)
 }
 
 // Writes a line: a word, and numbers in hexadecimal digits.
-fn write_line(text: &mut [u8], at: usize, label: &[u8], fields: &[u32]) -> usize
-    requires { at + length label.now + 9 * length fields.now + 1 < 2 ^ 64 }
-    ensures { Wrote text.old at (line_text label.now fields.now) text.new result }
+fn write_line(out: &mut Writer, label: &[u8], fields: &[u32])
+    requires { out.old.at + length label.now + 9 * length fields.now + 1 < 2 ^ 64 }
+    ensures { Adds out.old (line_text label.now fields.now) out.new }
 {
-    let after_label = write_text(text, at, label);
-    digits::write_fields(text, after_label, fields)
+    out.bytes(label);
+    out.fields(fields);
 }
 
 // Writes the bytes of a text.

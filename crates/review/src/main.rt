@@ -36,7 +36,7 @@ fn main(rt: HostRuntime) -> io::Result<()> {
 }
 
 // Reads until the buffer is full or the input ends, and gives how many bytes were read. They stand at the buffer's start and are
-// what the input begins with, as far as a clause can know its bytes.
+// what the input begins with, as far as a clause can know its bytes. A `while`, since n counts bytes and no turns.
 fn read_full<R: Read>(input: &mut R, buffer: &mut [u8]) -> io::Result<usize>
     ensures upper_bound { IfOk result (λ n. n ≤ length buffer.new) }
     ensures bytes { IfOk result (λ n. IfSome (R.remaining input.old) (λ xs. take n buffer.new ≡ take (length buffer.new) xs)) }
@@ -57,11 +57,10 @@ fn review(input: &[u8; READ], n: usize, text: &mut [u8; report::MAX_REPORT]) -> 
     ensures text_after { take result text.new ≡ printed_for (take n input.now) }
     ensures upper_bound { result ≤ length text.new }
 {
-    let bytes: &[u8] = input;
     if MAX_INPUT < n {
         return report::write_text(text, 0, b"input over 12288 bytes\n");
     }
-    report_on(&bytes[..n], text)
+    report_on(&input[..n], text)
 }
 
 // Writes the report on a submission, and gives its length.
@@ -69,9 +68,8 @@ fn report_on(submission: &[u8], text: &mut [u8]) -> usize
     ensures wrote { Wrote text.old 0 (review_of submission.now) text.new result }
     ensures upper_bound { result ≤ max_report }
 {
-    let board = BOARD;
     let mut map = [0; MAP];
-    number::write_words(&mut map, 0, &board);
+    number::write_words(&mut map, 0, &BOARD);
     let mut window = [0; WINDOW];
     let mut plan = [0; viertompu::WORDS];
     viertompu::viertompu_load(submission, b"", &map, &mut window, FIRST, &mut plan);

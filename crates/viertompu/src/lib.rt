@@ -11,7 +11,7 @@ ghost use Rattle.viertompu.specs.Words.{first_segment, first_module, word_of, he
 
 use address::Span;
 use decision::Decision;
-use kernel::{Kernel, MAX_SEGMENTS};
+use kernel::Kernel;
 use submission::MAX_MODULES;
 
 pub mod mending;
@@ -67,31 +67,27 @@ pub fn viertompu_load<'a>(
     ensures window_after { window.new ≡ memory_after (lent submission.now operator.now map.now first (length window.old)) window.old }
 {
     let decision = loader::load(submission, operator, map, window, first);
-    write_plan(plan, decision);
-    let verdict = decision.answer;
-    answer::number(verdict)
+    write_plan(plan, &decision);
+    answer::number(decision.answer)
 }
 
 // Writes all words of a decision.
-pub(crate) fn write_plan(plan: &mut [u32; WORDS], decision: Decision)
-    ensures { plan.new ≡ plan_words decision }
+pub(crate) fn write_plan(plan: &mut [u32; WORDS], decision: &Decision)
+    ensures { plan.new ≡ plan_words decision.now }
 {
     *plan = [0; WORDS];
     write_head(plan, decision);
-    let of_load = decision.plan;
-    write_segments(plan, of_load.kernel);
-    let modules = of_load.modules;
-    write_modules(plan, modules);
-    plan[FALSE_HEADERS] = of_load.kernel.false_headers;
+    write_segments(plan, &decision.plan.kernel);
+    write_modules(plan, &decision.plan.modules);
+    plan[FALSE_HEADERS] = decision.plan.kernel.false_headers;
 }
 
 // Writes the words before the segments.
-fn write_head(plan: &mut [u32; WORDS], decision: Decision)
-    ensures { plan.new ≡ patched plan.old 0 (head_words decision) }
+fn write_head(plan: &mut [u32; WORDS], decision: &Decision)
+    ensures { plan.new ≡ patched plan.old 0 (head_words decision.now) }
 {
-    let verdict = decision.answer;
-    plan[NUMBER] = answer::number(verdict);
-    plan[ITEM] = answer::item(verdict);
+    plan[NUMBER] = answer::number(decision.answer);
+    plan[ITEM] = answer::item(decision.answer);
     plan[HEADER] = word(decision.plan.kernel.header.0 as u64);
     plan[ENTRY] = word(decision.plan.kernel.entry.0);
     plan[EAX] = decision.plan.eax;
@@ -100,32 +96,27 @@ fn write_head(plan: &mut [u32; WORDS], decision: Decision)
     plan[BLOCK_END] = word(decision.plan.block.end.0);
 }
 
-// Writes the words of the segments.
-fn write_segments(plan: &mut [u32; WORDS], kernel: Kernel)
-    ensures { plan.new ≡ patched plan.old first_segment (segments_words kernel) }
+// Writes the words of the segments. Here and for the modules the loop is written out: one function over both tables would take a
+// row's words from a closure and copy them in a loop of its own, which is longer.
+fn write_segments(plan: &mut [u32; WORDS], kernel: &Kernel)
+    ensures { plan.new ≡ patched plan.old first_segment (segments_words kernel.now) }
 {
-    let mut i = 0;
-    while i < MAX_SEGMENTS {
-        let segment = kernel.segments[i];
+    for (i, segment) in kernel.segments.iter().enumerate() {
         let at = FIRST_SEGMENT + WORDS_PER_SEGMENT * i;
         plan[at] = word(segment.start.0);
         plan[at + 1] = word(segment.load_end.0);
         plan[at + 2] = word(segment.extent_end.0);
-        i += 1;
     }
 }
 
 // Writes the words of the modules.
-fn write_modules(plan: &mut [u32; WORDS], modules: [Span; MAX_MODULES])
-    ensures { plan.new ≡ patched plan.old first_module (modules_words modules) }
+fn write_modules(plan: &mut [u32; WORDS], modules: &[Span; MAX_MODULES])
+    ensures { plan.new ≡ patched plan.old first_module (modules_words modules.now) }
 {
-    let mut i = 0;
-    while i < MAX_MODULES {
-        let module = modules[i];
+    for (i, module) in modules.iter().enumerate() {
         let at = FIRST_MODULE + WORDS_PER_MODULE * i;
         plan[at] = word(module.start.0);
         plan[at + 1] = word(module.end.0);
-        i += 1;
     }
 }
 

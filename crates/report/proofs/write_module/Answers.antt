@@ -1,21 +1,17 @@
--- `report::write_module` meets its contract: no line, or the module's.
-use Rattle.std.proofs.Common.{◌++◌, arith}
-use Rattle.report.specs.Text.{decimal_text}
-use Rattle.report.specs.TextLaws.{decimal_short, wrote_nothing, wrote_behind}
-use Rattle.report.specs.Report.{module_label}
+-- `report::write_module` meets its contract: the module's line, or none.
+use Rattle.std.proofs.Common.{arith}
+use Rattle.report.specs.TextLaws.{decimal_short}
+use Rattle.report.specs.AddsLaws.{adds_nothing, adds_behind}
 use Rattle.report.specs.ReportLaws.{module_none, module_line_lem}
 use Rattle.report.proofs.write_module.Goals as goal
 
-pub returns-then-end-eq0 : goal.returns-then-end-eq0
-returns-then-end-eq0 c =
-    rw (module_none c.args.plan.now c.args.i c.if-end-eq0.true) (wrote_nothing c.args.text.now c.args.at)
+pub fields-requires : goal.fields-requires
+fields-requires c = omega (arith, c.decimal.ensures.wrote.ends, c.bytes.ensures.wrote.ends, decimal_short c.args.i)
 
-pub write_fields-requires : goal.write_fields-requires
-write_fields-requires c =
-    omega (arith, c.write_decimal-after_index.ensures.ends, c.write_text-after_word.ensures.ends, decimal_short c.args.i)
+pub returns-then-end-ne0 : goal.returns-then-end-ne0
+returns-then-end-ne0 c =
+    rw (← module_line_lem c.args.plan.now c.args.i c.if-end-ne0.true)
+    (adds_behind (adds_behind c.bytes.ensures c.decimal.ensures) c.fields.ensures)
 
-pub returns : goal.returns
-returns c =
-    let label = wrote_behind c.args.text.now c.args.at module_label (decimal_text c.args.i) _ _ _ _ c.write_text-after_word.ensures c.write_decimal-after_index.ensures in
-    rw (← module_line_lem c.args.plan.now c.args.i c.if-end-eq0.false)
-    (wrote_behind c.args.text.now c.args.at (module_label ++ decimal_text c.args.i) _ _ _ _ _ label c.write_fields.ensures)
+pub returns-else-end-ne0 : goal.returns-else-end-ne0
+returns-else-end-ne0 c = rw (module_none c.args.plan.now c.args.i c.if-end-ne0.false) adds_nothing

@@ -1,21 +1,22 @@
 -- `report::write_refusal` meets its contract: its parts, one behind the other.
 use Rattle.std.proofs.Common.{arith}
 use Rattle.report.specs.TextLaws.{decimal_short}
-use Rattle.report.proofs.TurnLaws.{refusal_written}
+use Rattle.report.specs.AddsLaws.{adds_behind}
+use Rattle.report.specs.Report.{refusal_text}
 use Rattle.report.proofs.write_refusal.Goals as goal
 
-pub write_text-after_blank-requires : goal.write_text-after_blank-requires
-write_text-after_blank-requires c =
-    omega (arith, c.write_decimal-after_number.ensures.ends, c.write_text-after_word.ensures.ends, decimal_short c.args.number)
+pub bytes-requires-2 : goal.bytes-requires-2
+bytes-requires-2 c = omega (arith, c.bytes.ensures.wrote.ends, c.decimal.ensures.wrote.ends, decimal_short c.args.number)
 
-pub write_decimal-after_item-requires : goal.write_decimal-after_item-requires
-write_decimal-after_item-requires c =
-    omega (arith, c.write_text-after_blank.ensures.ends, c.write_decimal-after_number.ensures.ends, c.write_text-after_word.ensures.ends, decimal_short c.args.number)
+pub decimal-requires-2 : goal.decimal-requires-2
+decimal-requires-2 c =
+    omega (arith, c.bytes.ensures.wrote.ends, c.decimal.ensures.wrote.ends, c.bytes-2.ensures.wrote.ends, decimal_short c.args.number)
 
-pub write_text-requires : goal.write_text-requires
-write_text-requires c =
-    omega (arith, c.write_decimal-after_item.ensures.ends, c.write_text-after_blank.ensures.ends, c.write_decimal-after_number.ensures.ends, c.write_text-after_word.ensures.ends, decimal_short c.args.number, decimal_short c.args.item)
+pub bytes-requires-3 : goal.bytes-requires-3
+bytes-requires-3 c =
+    omega (arith, c.bytes.ensures.wrote.ends, c.decimal.ensures.wrote.ends, c.bytes-2.ensures.wrote.ends, c.decimal-2.ensures.wrote.ends, decimal_short c.args.number, decimal_short c.args.item)
 
 pub returns : goal.returns
+unfolding refusal_text
 returns c =
-    refusal_written c.args.text.now _ _ _ _ _ _ _ _ _ _ c.args.number c.args.item c.write_text-after_word.ensures c.write_decimal-after_number.ensures c.write_text-after_blank.ensures c.write_decimal-after_item.ensures c.write_text.ensures
+    adds_behind c.bytes.ensures (adds_behind c.decimal.ensures (adds_behind c.bytes-2.ensures (adds_behind c.decimal-2.ensures c.bytes-3.ensures)))

@@ -5,4 +5,4 @@ use Rattle.viertompu.proofs.write_head.Goals as goal
 
 pub returns : goal.returns
 unfolding head_words
-returns c = cc (stored c.args.plan.now 0 (head_words c.args.decision))
+returns c = cc (stored c.args.plan.now 0 (head_words c.args.decision.now))

@@ -1,16 +1,9 @@
 -- The loop's invariant: the words of the modules passed are written, and nothing else.
-use Rattle.std.proofs.Common.{◌-◌, ◌≡◌, ◌≤◌}
+use Rattle.std.proofs.Common.{◌≡◌}
 use Rattle.buffer.specs.Patched.{patched}
-use Rattle.submission.specs.Format.{max_modules}
 use Rattle.viertompu.specs.Joined.{joined}
 use Rattle.viertompu.specs.Words.{first_module, module_words}
 use Rattle.viertompu.proofs.write_modules.Given as goal
 
 abbrev pub invariant-loop-i : goal.invariant-loop-i
-invariant-loop-i l = record {
-  in_range : l.i ≤ max_modules;
-  written : l.plan ≡ patched l.fn.plan first_module (joined (module_words l.modules) l.i);
-}
-
-abbrev pub decreases-loop-i : goal.decreases-loop-i
-decreases-loop-i l = max_modules - l.i
+invariant-loop-i l = l.plan ≡ patched l.fn.plan first_module (joined (module_words l.modules) l.i)

@@ -5,4 +5,4 @@ use Rattle.viertompu.proofs.write_plan.Goals as goal
 
 pub returns : goal.returns
 returns c =
-    plan_written c.args.decision _ _ _ c.write_head.ensures c.write_segments.ensures c.write_modules.ensures
+    plan_written c.args.decision.now _ _ _ c.write_head.ensures c.write_segments.ensures c.write_modules.ensures
