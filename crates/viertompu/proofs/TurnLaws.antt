@@ -1,7 +1,9 @@
 -- One turn of each loop, and the parts of a plan one behind the other.
 --     segment_written, module_written    the words of a segment more, of a module more
 --     plan_written                       head, segments and modules over zeros, and the count of false headers
+--     refusal_words, refusal_written     the words of a refusal
 -- Assumes nothing.
+use Rattle.std.specs.Prelude.{Ok, Err}
 use mathlib.Core.Path.{◌≡◌, refl, ap, ◌∙◌}
 use mathlib.Core.List.{List, [], ◌∷◌, ◌++◌, append_assoc}
 use Prim.Native.Nat.{ℕ, suc, ◌+◌, ◌*◌}
@@ -15,7 +17,10 @@ use Rattle.address.specs.declared.Span.{Span}
 use Rattle.submission.specs.Format.{max_modules}
 use Rattle.kernel.specs.declared.Kernel.{Kernel}
 use Rattle.kernel.specs.Kernel.{max_segments}
-use Rattle.decision.specs.declared.Decision.{Decision}
+use Rattle.answer.specs.Answer.{refusal_number, refusal_item}
+use Rattle.answer.specs.declared.Refusal.{Refusal}
+use Rattle.decision.specs.declared.Plan.{Plan}
+use Rattle.decision.specs.Plan.{Decision, no_plan}
 use Rattle.viertompu.specs.Joined.{joined}
 use Rattle.viertompu.specs.JoinedLaws.{stored, length_joined, joined_written}
 use Rattle.viertompu.specs.Words.{plan_size, words_per_segment, words_per_module, first_segment, first_module, head_words, segment_words, module_words, segments_words, modules_words, plan_words}
@@ -64,15 +69,25 @@ behind_written h s m v n a b c e =
     let l : length (h ++ s ++ m) ≡ 88 = simp length-append (omega arith) in
     rw e (set_at (h ++ s ++ m) 0 (zeros 7) n 88 l)
 
-pub plan_written : (d : Decision) (t u v : List ℕ)
-    → t ≡ patched (zeros plan_size) 0 (head_words d)
-    → u ≡ patched t first_segment (segments_words d.plan.kernel)
-    → v ≡ patched u first_module (modules_words d.plan.modules)
-    → set v 88 d.plan.kernel.false_headers ≡ plan_words d
+pub plan_written : (q : Plan) (w t u v : List ℕ)
+    → w ≡ zeros plan_size
+    → t ≡ patched w 0 (head_words (Ok q))
+    → u ≡ patched t first_segment (segments_words q.kernel)
+    → v ≡ patched u first_module (modules_words q.modules)
+    → set v 88 q.kernel.false_headers ≡ plan_words (Ok q)
 unfolding head_words plan_words
-plan_written d t u v p q r =
-    let s = segments_words d.plan.kernel in
-    let m = modules_words d.plan.modules in
-    let a = length_joined (segment_words d.plan.kernel) words_per_segment (λ j. refl) max_segments in
-    let b = length_joined (module_words d.plan.modules) words_per_module (λ j. refl) max_modules in
-    behind_written (head_words d) s m v d.plan.kernel.false_headers refl a b (parts_written (head_words d) s m t u v refl a b p q r)
+plan_written q w t u v z p e r =
+    let d : Decision = Ok q in
+    let s = segments_words q.kernel in
+    let m = modules_words q.modules in
+    let a = length_joined (segment_words q.kernel) words_per_segment (λ j. refl) max_segments in
+    let b = length_joined (module_words q.modules) words_per_module (λ j. refl) max_modules in
+    behind_written (head_words d) s m v q.kernel.false_headers refl a b (parts_written (head_words d) s m t u v refl a b (rw z at p) e r)
+
+-- a refusal's number and item over zeros
+pub refusal_words : (r : Refusal) → plan_words (Err r) ≡ refusal_number r ∷ refusal_item r ∷ zeros 94
+unfolding plan_words head_words no_plan joined
+refusal_words r = refl
+
+pub refusal_written : (w : List ℕ) (r : Refusal) (n i : ℕ) → w ≡ zeros plan_size → n ≡ refusal_number r → i ≡ refusal_item r → set (set w 0 n) 1 i ≡ plan_words (Err r)
+refusal_written w r n i z e f = rw (z, e, f, refusal_words r) refl

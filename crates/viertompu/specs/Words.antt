@@ -14,7 +14,7 @@ use Rattle.answer.specs.Answer.{number_of, item_of}
 use Rattle.submission.specs.Format.{max_modules}
 use Rattle.kernel.specs.declared.Kernel.{Kernel}
 use Rattle.kernel.specs.Kernel.{max_segments, segment_no}
-use Rattle.decision.specs.declared.Decision.{Decision}
+use Rattle.decision.specs.Plan.{Decision, plan_given}
 use Rattle.viertompu.specs.Joined.{joined}
 
 abbrev pub plan_size : ℕ
@@ -39,14 +39,15 @@ word_of a = a % 2 ^ 32
 -- number, item, header offset, entry, EAX, EBX, the information block's start and end
 unfoldable pub head_words : Decision → List ℕ
 head_words d =
-    number_of d.answer
-    ∷ item_of d.answer
-    ∷ word_of d.plan.kernel.header.0
-    ∷ word_of d.plan.kernel.entry.0
-    ∷ d.plan.eax
-    ∷ d.plan.ebx
-    ∷ word_of d.plan.block.start.0
-    ∷ word_of d.plan.block.end.0
+    let q = plan_given d in
+    number_of d
+    ∷ item_of d
+    ∷ word_of q.kernel.header.0
+    ∷ word_of q.kernel.entry.0
+    ∷ q.eax
+    ∷ q.ebx
+    ∷ word_of q.block.start.0
+    ∷ word_of q.block.end.0
     ∷ []
 
 -- start, load end, extent end
@@ -65,4 +66,6 @@ modules_words m = joined (module_words m) max_modules
 
 -- the word behind them is how many false headers stand below the header, and seven are zeros
 unfoldable pub plan_words : Decision → List ℕ
-plan_words d = head_words d ++ segments_words d.plan.kernel ++ modules_words d.plan.modules ++ (d.plan.kernel.false_headers ∷ zeros 7)
+plan_words d =
+    let q = plan_given d in
+    head_words d ++ segments_words q.kernel ++ modules_words q.modules ++ (q.kernel.false_headers ∷ zeros 7)

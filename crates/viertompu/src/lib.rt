@@ -1,16 +1,17 @@
 // A load, and its plan as words; a mend is in `mending`. The crate `viertompu_c` offers both to C.
 #![tactic(auto)]
 
-ghost use Rattle.std.specs.Prelude.{◌≡◌, length};
-ghost use Rattle.buffer.specs.Patched.{patched};
+ghost use Rattle.std.specs.Prelude.{◌≡◌, length, Ok};
+ghost use Rattle.buffer.specs.Patched.{patched, zeros};
 ghost use Rattle.answer.specs.Answer.{number_of};
 ghost use Rattle.decision.specs.Decision.{decision_of};
 ghost use Rattle.decision.specs.Lent.{lent};
 ghost use Rattle.loader.specs.Memory.{memory_after};
-ghost use Rattle.viertompu.specs.Words.{first_segment, first_module, word_of, head_words, segments_words, modules_words, plan_words};
+ghost use Rattle.viertompu.specs.Words.{plan_size, first_segment, first_module, word_of, head_words, segments_words, modules_words, plan_words};
 
 use address::Span;
-use decision::Decision;
+use answer::Answer;
+use decision::Plan;
 use kernel::Kernel;
 use submission::MAX_MODULES;
 
@@ -62,38 +63,52 @@ pub fn viertompu_load<'a>(
     first: u32,
     plan: &mut [u32; WORDS],
 ) -> u32
-    ensures value { result ≡ number_of (decision_of (lent submission.now operator.now map.now first (length window.old))).answer }
+    ensures value { result ≡ number_of (decision_of (lent submission.now operator.now map.now first (length window.old))) }
     ensures plan_after { plan.new ≡ plan_words (decision_of (lent submission.now operator.now map.now first (length window.old))) }
     ensures window_after { window.new ≡ memory_after (lent submission.now operator.now map.now first (length window.old)) window.old }
 {
     let decision = loader::load(submission, operator, map, window, first);
     write_plan(plan, &decision);
-    answer::number(decision.answer)
+    answer::number(&decision)
 }
 
-// Writes all words of a decision.
-pub(crate) fn write_plan(plan: &mut [u32; WORDS], decision: &Decision)
+// Writes all words of a decision: those of a load, or the number and the item of a refusal and zeros.
+pub(crate) fn write_plan(plan: &mut [u32; WORDS], decision: &Answer<Plan>)
     ensures { plan.new ≡ plan_words decision.now }
 {
     *plan = [0; WORDS];
-    write_head(plan, decision);
-    write_segments(plan, &decision.plan.kernel);
-    write_modules(plan, &decision.plan.modules);
-    plan[FALSE_HEADERS] = decision.plan.kernel.false_headers;
+    match decision {
+        Ok(of_load) => write_load(plan, of_load),
+        Err(refusal) => {
+            plan[NUMBER] = refusal.number();
+            plan[ITEM] = refusal.item();
+        }
+    }
+}
+
+// Writes the words of a load over zeros.
+fn write_load(plan: &mut [u32; WORDS], of_load: &Plan)
+    requires { plan.old ≡ zeros plan_size }
+    ensures { plan.new ≡ plan_words (Ok of_load.now) }
+{
+    write_head(plan, of_load);
+    write_segments(plan, &of_load.kernel);
+    write_modules(plan, &of_load.modules);
+    plan[FALSE_HEADERS] = of_load.kernel.false_headers;
 }
 
 // Writes the words before the segments.
-fn write_head(plan: &mut [u32; WORDS], decision: &Decision)
-    ensures { plan.new ≡ patched plan.old 0 (head_words decision.now) }
+fn write_head(plan: &mut [u32; WORDS], of_load: &Plan)
+    ensures { plan.new ≡ patched plan.old 0 (head_words (Ok of_load.now)) }
 {
-    plan[NUMBER] = answer::number(decision.answer);
-    plan[ITEM] = answer::item(decision.answer);
-    plan[HEADER] = word(decision.plan.kernel.header.0 as u64);
-    plan[ENTRY] = word(decision.plan.kernel.entry.0);
-    plan[EAX] = decision.plan.eax;
-    plan[EBX] = decision.plan.ebx;
-    plan[BLOCK_START] = word(decision.plan.block.start.0);
-    plan[BLOCK_END] = word(decision.plan.block.end.0);
+    plan[NUMBER] = 0;
+    plan[ITEM] = 0;
+    plan[HEADER] = word(of_load.kernel.header.0 as u64);
+    plan[ENTRY] = word(of_load.kernel.entry.0);
+    plan[EAX] = of_load.eax;
+    plan[EBX] = of_load.ebx;
+    plan[BLOCK_START] = word(of_load.block.start.0);
+    plan[BLOCK_END] = word(of_load.block.end.0);
 }
 
 // Writes the words of the segments. Here and for the modules the loop is written out: one function over both tables would take a

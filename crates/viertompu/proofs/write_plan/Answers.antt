@@ -1,8 +1,8 @@
--- `viertompu::write_plan` meets its contract: head, segments and modules, one behind the other, over zeros, and the count
--- behind them.
-use Rattle.viertompu.proofs.TurnLaws.{plan_written}
+-- `viertompu::write_plan` meets its contract: a refusal's number and item stand over zeros.
+-- Assumes nothing.
+use Rattle.std.proofs.Common.{refl}
+use Rattle.viertompu.proofs.TurnLaws.{refusal_written}
 use Rattle.viertompu.proofs.write_plan.Goals as goal
 
-pub returns : goal.returns
-returns c =
-    plan_written c.args.decision.now _ _ _ c.write_head.ensures c.write_segments.ensures c.write_modules.ensures
+pub returns-in-Err : goal.returns-in-Err
+returns-in-Err c = rw c.in-Err.is (refusal_written _ _ _ _ refl c.number.ensures c.item.ensures)
