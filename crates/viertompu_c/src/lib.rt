@@ -24,7 +24,7 @@ pub extern "C" fn viertompu_load<'a>(
     first: u32,
     plan: &mut [u32; WORDS],
 ) -> u32
-    ensures value { result ≡ number_of (decision_of (lent submission.now operator.now map.now first (length window.old))).answer }
+    ensures value { result ≡ number_of (decision_of (lent submission.now operator.now map.now first (length window.old))) }
     ensures plan_after { plan.new ≡ plan_words (decision_of (lent submission.now operator.now map.now first (length window.old))) }
     ensures window_after { window.new ≡ memory_after (lent submission.now operator.now map.now first (length window.old)) window.old }
 {
