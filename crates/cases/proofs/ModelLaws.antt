@@ -2,27 +2,27 @@
 --     model_in, model_decision, decision_computes    the places and the decision
 --     model_memory, memory_computes                  the window after a decision
 -- Assumes nothing.
-use Rattle.std.specs.Prelude.{◌≡◌, Bool, true, false, cond, List, [], ◌∷◌, ◌++◌, ℕ, ◌+◌, ◌-◌, ◌≤◌}
-use Rattle.std.proofs.Math.Path.{refl, ap}
+use Rattle.std.specs.Prelude.{◌≡◌, Ok, Err, List, [], ◌∷◌, ◌++◌, ℕ, ◌+◌, ◌-◌, ◌≤◌}
+use Rattle.std.proofs.Math.Path.{refl, sym, ap}
 use Rattle.std.proofs.Common.{◌∙◌}
 use Rattle.laws.specs.Table.{listed}
+use Rattle.laws.specs.Checks.{first_of}
 use Rattle.buffer.specs.Writes.{Write, written}
 use Rattle.address.specs.Address.{page}
-use Rattle.answer.specs.Answer.{is_load}
-use Rattle.memory_map.specs.Parse.{parsed_map}
+use Rattle.memory_map.specs.Parse.{pairs_read}
 use Rattle.usable.specs.Usable.{address_space}
 use Rattle.usable.specs.Sizes.{mem_lower, mem_upper}
 use Rattle.placement.specs.declared.Placed.{Placed}
 use Rattle.items.specs.LoadItems.{extents_of, items_of}
 use Rattle.decision.specs.declared.Plan.{Plan}
-use Rattle.decision.specs.declared.Decision.{Decision}
 use Rattle.decision.specs.Lent.{Lent}
 use Rattle.decision.specs.Read.{layout_in, image_in, kernel_in, line_in, board_in, block_length_in}
-use Rattle.decision.specs.Decided.{kernel_checks, room_checks, placed_by, plan_of, decided_by}
-use Rattle.decision.specs.Plan.{no_plan}
-use Rattle.decision.specs.Decision.{lent_checks, checks, answer_of, placed_in, plan_in, decision_of}
+use Rattle.decision.specs.Decided.{kernel_checks, room_checks, placed_by, plan_of}
+use Rattle.decision.specs.Plan.{Decision}
+use Rattle.decision.specs.Decision.{lent_checks, checks, placed_in, plan_in, decision_of}
 use Rattle.block.specs.Block.{Contents, contents_of, block_of}
 use Rattle.loader.specs.Memory.{segment_write, module_write, contents_in, block_write, segment_writes, module_writes, writes_of, memory_after}
+use Rattle.loader.specs.WriteLaws.{decision_loaded, memory_loaded, memory_refused}
 use Rattle.cases.proofs.WalkLaws.{computed_from, items_compute}
 use Rattle.cases.proofs.RunLaws.{computed_lower, computed_upper, lower_computes, upper_computes}
 
@@ -32,7 +32,7 @@ model_in x = computed_from (board_in x) (items_of (layout_in x) (kernel_in x).pa
 -- the decision where the items are placed so
 unfoldable pub decision_with : Lent → Placed → Decision
 decision_with x p =
-    decided_by (lent_checks x ++ (kernel_checks (board_in x) (kernel_in x) ++ room_checks p.done (layout_in x).count))
+    first_of (lent_checks x ++ (kernel_checks (board_in x) (kernel_in x) ++ room_checks p.done (layout_in x).count))
     (plan_of (kernel_in x) p.spans (layout_in x).count)
 
 unfoldable pub model_decision : Lent → Decision
@@ -51,15 +51,11 @@ writes_with x p lower upper =
 
 -- the window after such a decision
 unfoldable pub memory_with : Lent → List ℕ → Decision → ℕ → ℕ → List ℕ
-memory_with x w d lower upper = cond (is_load d.answer) (written w (writes_with x d.plan lower upper)) w
+memory_with x w (Ok p) lower upper = written w (writes_with x p lower upper)
+memory_with x w (Err r) lower upper = w
 
 unfoldable pub model_memory : Lent → List ℕ → Decision → List ℕ
-model_memory x w d = let m = (parsed_map x.map).map in memory_with x w d (computed_lower m) (computed_upper m)
-
--- the plan of a load counts in a load alone
-with_plan : (t : Bool) (p z : Plan) (f : Plan → List ℕ) (w : List ℕ) → cond t (f p) w ≡ cond t (f (cond t p z)) w
-with_plan true p z f w = refl
-with_plan false p z f w = refl
+model_memory x w d = let m = pairs_read x.map in memory_with x w d (computed_lower m) (computed_upper m)
 
 module _ (x : Lent) (small : x.first + x.size + page ≤ address_space) where
   placed_computes : placed_in x ≡ model_in x
@@ -75,10 +71,16 @@ module _ (x : Lent) (small : x.first + x.size + page ≤ address_space) where
   decision_computes = decision_with_lem ∙ ap (decision_with x) placed_computes
 
 module _ (x : Lent) (w : List ℕ) where
-  memory_with_lem : memory_after x w ≡ memory_with x w (decision_of x) (mem_lower (parsed_map x.map).map) (mem_upper (parsed_map x.map).map)
-  unfolding memory_after writes_of segment_writes module_writes block_write contents_in decision_of decided_by contents_with writes_with memory_with
-  memory_with_lem = with_plan (is_load (answer_of x)) (plan_in x) no_plan (λ p. written w (writes_with x p (mem_lower (parsed_map x.map).map) (mem_upper (parsed_map x.map).map))) w
+  -- a load's writes are those by its plan
+  writes_with_lem : writes_of x ≡ writes_with x (plan_in x) (mem_lower (pairs_read x.map)) (mem_upper (pairs_read x.map))
+  unfolding writes_of segment_writes module_writes block_write contents_in contents_with writes_with
+  writes_with_lem = refl
+
+  memory_with_lem : (d : Decision) → decision_of x ≡ d → memory_after x w ≡ memory_with x w d (mem_lower (pairs_read x.map)) (mem_upper (pairs_read x.map))
+  unfolding memory_with
+  memory_with_lem (Ok p) e = sym (memory_loaded x p e w (written w (writes_of x)) refl) ∙ rw (writes_with_lem, (decision_loaded x p e).plan) refl
+  memory_with_lem (Err r) e = sym (memory_refused x r e w)
 
   pub memory_computes : memory_after x w ≡ model_memory x w (decision_of x)
   unfolding model_memory
-  memory_computes = rw (memory_with_lem, lower_computes, upper_computes)
+  memory_computes = rw (memory_with_lem (decision_of x) refl, lower_computes, upper_computes)

@@ -43,7 +43,7 @@ use Rattle.placement.specs.FreeEdge.{taken_edge, free_edge}
 use Rattle.placement.specs.Lowest.{under_ceiling}
 use Rattle.placement.specs.Order.{with_span}
 use Rattle.items.specs.LoadItems.{extents_of, ceiling_of, load_item, items_of, module_spans}
-use Rattle.decision.specs.Decided.{extent_open, kernel_open, kernel_checks, room_checks, plan_of, decided_by}
+use Rattle.decision.specs.Decided.{extent_open, kernel_open, kernel_checks, room_checks, plan_of}
 use Rattle.decision.specs.Plan.{no_plan}
 use Rattle.decision.specs.Read.{image_in}
 use Rattle.decision.specs.Decision.{lent_checks}
@@ -91,7 +91,7 @@ counts_compute [] = refl
 counts_compute (r ∷ rs) = rw (count_computes (image_of_row r), counts_compute rs)
 
 long_refused : map (λ (r : Row). model_outcome r.input) long_rows ≡ map (λ (r : Row). refusal 6 (false_headers (image_of_row r))) long_rows
-unfolding long_rows columns decision_with model_decision memory_with model_memory lent_checks no_plan decided_by window_checks next_offset pair_offset begins pair_count too_small past_end bad_map map_checks pair_at first_pairs parsed_map header_checks image_checks words is_header header_from header operator_checks is_submission in_limits string_holds rules_hold submission_checks data_start layout_of has_zero same_bytes patched number number_bytes word_bytes first_of passes listed any all_from run
+unfolding long_rows columns decision_with model_decision memory_with model_memory lent_checks no_plan window_checks next_offset pair_offset begins pair_count too_small past_end bad_map map_checks pair_at first_pairs parsed_map header_checks image_checks words is_header header_from header operator_checks is_submission in_limits string_holds rules_hold submission_checks data_start layout_of has_zero same_bytes patched number number_bytes word_bytes first_of passes listed any all_from run
 long_refused = refl
 
 long_counted : map (λ (r : Row). refusal 6 (count_of_row r)) long_rows ≡ map (λ (r : Row). r.outcome) long_rows
@@ -99,7 +99,7 @@ unfolding long_rows counted_up_to is_false_header words is_header header_from he
 long_counted = refl
 
 computed_short : map (λ (r : Row). model_outcome r.input) short_rows ≡ map (λ (r : Row). r.outcome) short_rows
-unfolding short_rows columns model_in decision_with model_decision contents_with writes_with memory_with model_memory segment_write module_write lent_checks extent_open kernel_open kernel_checks room_checks plan_of no_plan decided_by extents_of ceiling_of load_item items_of module_spans structure_words text_size texts_size block_length structure_for entry_words entries parts_of block_of string_lengths boot_modules walk under_ceiling computed computed_from run_end computed_lower computed_upper with_span taken_by is_taken is_free taken_edge free_edge window_checks open_edge is_open map_edge covers usable_by barred_by is_usable next_offset pair_offset begins pair_count too_small past_end bad_map map_checks pair_at first_pairs parsed_map unknown_kind header_checks load_checks field_checks kind_checks entry_checks image_checks kernel_for fields_kernel kernel_of elf_header program_header_at is_segment segments_among elf_kernel right_kind table_fits well_formed fits bad_header bad_no elf_checks kernel_with entry_in entry_outside overlap_no overlaps_earlier extents_overlap overlap passing only_if fields_at load_length words is_header header_from header is_false_header is_false_header_at false_headers operator_checks line_in_force command_line is_submission in_limits string_holds rules_hold submission_checks data_start layout_of has_zero same_bytes nearest span_edge edge_up_to round_up inside patched written number number_bytes word_bytes first_of passes listed any all_from run
+unfolding short_rows columns model_in decision_with model_decision contents_with writes_with memory_with model_memory segment_write module_write lent_checks extent_open kernel_open kernel_checks room_checks plan_of no_plan extents_of ceiling_of load_item items_of module_spans structure_words text_size texts_size block_length structure_for entry_words entries parts_of block_of string_lengths boot_modules walk under_ceiling computed computed_from run_end computed_lower computed_upper with_span taken_by is_taken is_free taken_edge free_edge window_checks open_edge is_open map_edge covers usable_by barred_by is_usable next_offset pair_offset begins pair_count too_small past_end bad_map map_checks pair_at first_pairs parsed_map unknown_kind header_checks load_checks field_checks kind_checks entry_checks image_checks kernel_for fields_kernel kernel_of elf_header program_header_at is_segment segments_among elf_kernel right_kind table_fits well_formed fits bad_header bad_no elf_checks kernel_with entry_in entry_outside overlap_no overlaps_earlier extents_overlap overlap passing only_if fields_at load_length words is_header header_from header is_false_header is_false_header_at false_headers operator_checks line_in_force command_line is_submission in_limits string_holds rules_hold submission_checks data_start layout_of has_zero same_bytes nearest span_edge edge_up_to round_up inside patched written number number_bytes word_bytes first_of passes listed any all_from run
 computed_short = refl
 
 computed_rows : map (λ (r : Row). model_outcome r.input) rows ≡ map (λ (r : Row). r.outcome) rows

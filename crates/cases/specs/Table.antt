@@ -16,8 +16,8 @@ use Rattle.answer.specs.Answer.{number_of, item_of}
 use Rattle.header.specs.Header.{header_magic}
 use Rattle.kernel.specs.declared.Kernel.{Kernel}
 use Rattle.kernel.specs.Kernel.{segment_no}
-use Rattle.decision.specs.declared.Decision.{Decision}
 use Rattle.decision.specs.Lent.{Lent}
+use Rattle.decision.specs.Plan.{Decision, plan_given}
 use Rattle.decision.specs.Decision.{decision_of}
 use Rattle.loader.specs.Memory.{memory_after}
 
@@ -113,23 +113,24 @@ stretch_of k i =
 -- the columns of a decision, where the window holds w from its first address on
 unfoldable pub columns : ℕ → Decision → List ℕ → Outcome
 columns first d w =
-    let hello = span_no d.plan.modules 0 in
-    let block = drop (d.plan.ebx - first) w in
+    let p = plan_given d in
+    let hello = span_no p.modules 0 in
+    let block = drop (p.ebx - first) w in
     record {
-      number = number_of d.answer;
-      item = item_of d.answer;
+      number = number_of d;
+      item = item_of d;
       planned = record {
-        false_headers = d.plan.kernel.false_headers;
-        segments = listed (stretch_of d.plan.kernel) d.plan.kernel.count;
-        entry = d.plan.kernel.entry.0;
+        false_headers = p.kernel.false_headers;
+        segments = listed (stretch_of p.kernel) p.kernel.count;
+        entry = p.kernel.entry.0;
         module_start = hello.start.0;
         module_end = hello.end.0;
-        block_start = d.plan.block.start.0;
-        block_end = d.plan.block.end.0;
+        block_start = p.block.start.0;
+        block_end = p.block.end.0;
       };
       handed = record {
-        eax = d.plan.eax;
-        ebx = d.plan.ebx;
+        eax = p.eax;
+        ebx = p.ebx;
         flags = number_at 4 block 0;
         mem_lower = number_at 4 block 4;
         mem_upper = number_at 4 block 8;

@@ -3,9 +3,10 @@
 --     conditions                what these conditions say
 --     answered                  for all that is lent
 --     number_load, load_plan    the number 0 is a load, and gives its plan
+--     refusal_plan              a refusal gives zeros
 --     room_item, header_item    what the items of 16 and 6 are
 -- Assumes nothing.
-use Rattle.std.specs.Prelude.{◌≡◌, Bool, true, not, ◌&&◌, ◌||◌, List, ◌↔◌, ◌⊎◌, ltb, Option, Some, None}
+use Rattle.std.specs.Prelude.{◌≡◌, Bool, true, not, ◌&&◌, ◌||◌, List, ◌↔◌, ◌⊎◌, ltb, Option, Some, None, Ok, Err}
 use Rattle.std.proofs.Math.Path.{refl, ap}
 use Rattle.std.proofs.Common.{sym, subst, ◌∙◌, ⊎_elim, eq-or-lt_of_le}
 use Rattle.std.proofs.Math.Bool.{false}
@@ -15,16 +16,16 @@ use native.Mathlib.Omega.{arith}
 use borrow.Author.Tests.{eq-eqb, ne_eqb, ltb-false, le-ltb, ltb-true, not-false}
 use Rattle.std.proofs.Math.Dec.{eqb}
 use Rattle.std.proofs.Math.ListN.{length}
-use Rattle.laws.specs.Checks.{only_if}
+use Rattle.laws.specs.Checks.{only_if, passes}
 use Rattle.laws.specs.Tests.{any}
-use Rattle.laws.proofs.CheckLaws.{not_to_true, not_to_false}
+use Rattle.laws.proofs.CheckLaws.{passes_on, not_to_true, not_to_false}
 use Rattle.laws.proofs.TestLaws.{or_none_left, or_none_right, eqb_is, ltb_is, not_is, false_is, or_is, and_is}
 use Rattle.number.specs.Number.{number_at}
 use Rattle.address.specs.Address.{top}
-use Rattle.answer.specs.Answer.{number_of, is_load, item_of}
+use Rattle.answer.specs.Answer.{number_of, item_of}
 use Rattle.answer.specs.AnswerLaws.{item_none}
 use Rattle.answer.specs.Chain.{check_order, place_in, Before}
-use Rattle.answer.specs.ChainLaws.{refuses, numbers, distinct, applies_for, applies_other, answer_for, first_answer, answer_number, number_first, none_given, none_applies}
+use Rattle.answer.specs.ChainLaws.{numbers, distinct, applies_for, applies_other, answer_for, first_answer, answer_number, number_first, none_given, none_applies, number_load as chain_load}
 use Rattle.submission.specs.Scan.{has_zero}
 use Rattle.submission.specs.ScanLaws.{no_zero, zero_free}
 use Rattle.submission.specs.Layout.{layout_of}
@@ -52,10 +53,11 @@ use Rattle.memory_map.specs.PairsLaws.{map_good_is}
 use Rattle.board.specs.Window.{window_checks}
 use Rattle.decision.specs.Lent.{Lent}
 use Rattle.decision.specs.Read.{image_in}
-use Rattle.decision.specs.Decided.{kernel_checks, room_checks, decided_by}
-use Rattle.decision.specs.Plan.{no_plan}
-use Rattle.decision.specs.Decision.{lent_checks, checks, answer_of, decision_of, plan_in, placed_in}
+use Rattle.decision.specs.Decided.{kernel_checks, room_checks}
+use Rattle.decision.specs.Plan.{Decision, no_plan, plan_given}
+use Rattle.decision.specs.Decision.{lent_checks, checks, decision_of, plan_in, placed_in}
 use Rattle.loader.specs.Memory.{memory_after}
+use Rattle.loader.specs.WriteLaws.{memory_refused}
 use Rattle.theorems.specs.Promises.{OfLoad, OfFields, OfElf, OfHeader, bit16, Conditions, Answered}
 
 -- the condition of a refusal is that its check applies
@@ -114,6 +116,11 @@ operator_is line =
       λ e. (ltb-false max_line (length line) (or_none_left p (has_zero line) e), no_zero line (or_none_right p (has_zero line) e)),
       λ h. rw (le-ltb max_line (length line) h.0, zero_free line h.1) refl,
     )
+
+-- a refusal's plan is zeros
+zeros_given : (d : Decision) → (number_of d ≡ 0 → ⊥) → plan_given d ≡ no_plan
+zeros_given (Ok q) h = absurd (h refl)
+zeros_given (Err r) h = refl
 
 module _ (x : Lent) where
   -- the offset of the lowest header is the one that the checks read
@@ -192,7 +199,7 @@ module _ (x : Lent) where
         header = λ o h low. at_header o (header_known o h low);
       }
 
-  -- the numbers of the checks are those of the order, each once, and all of them refuse
+  -- the numbers of the checks are those of the order, each once
   pub numbers_are : numbers (checks x) ≡ check_order
   unfolding numbers only_if checks lent_checks submission_checks operator_checks window_checks map_checks header_checks load_checks field_checks kind_checks entry_checks elf_checks image_checks kernel_checks room_checks
   numbers_are = refl
@@ -201,74 +208,62 @@ module _ (x : Lent) where
   unfolding distinct place_in
   numbered = rw numbers_are refl
 
-  checks_refuse : refuses (checks x) ≡ true
-  unfolding refuses only_if checks lent_checks submission_checks operator_checks window_checks map_checks header_checks load_checks field_checks kind_checks entry_checks elf_checks image_checks kernel_checks room_checks
-  checks_refuse = refl
-
   checks_many : length (checks x) ≡ length check_order
   unfolding only_if checks lent_checks submission_checks operator_checks window_checks map_checks header_checks load_checks field_checks kind_checks entry_checks elf_checks image_checks kernel_checks room_checks
   checks_many = refl
 
-  pub decided_answer : (decision_of x).answer ≡ answer_of x
-  unfolding decision_of decided_by
-  decided_answer = refl
-
-  pub number_load : number_of (decision_of x).answer ≡ 0 → is_load (answer_of x) ≡ true
-  number_load e = eq-eqb _ _ (ap number_of (sym decided_answer) ∙ e)
+  pub number_load : number_of (decision_of x) ≡ 0 → passes (checks x) ≡ true
+  unfolding decision_of
+  number_load = chain_load (checks x) (plan_in x)
 
   -- a load gives its plan
-  pub load_plan : number_of (decision_of x).answer ≡ 0 → (decision_of x).plan ≡ plan_in x
-  unfolding decision_of decided_by
-  load_plan e = rw (number_load e)
+  pub load_plan : number_of (decision_of x) ≡ 0 → plan_given (decision_of x) ≡ plan_in x
+  unfolding decision_of
+  load_plan e = ap plan_given (passes_on (checks x) (plan_in x) (number_load e))
 
-  not_load : (number_of (decision_of x).answer ≡ 0 → ⊥) → is_load (answer_of x) ≡ false
-  not_load h = ne_eqb _ _ (λ e. h (ap number_of decided_answer ∙ e))
+  pub refusal_plan : (number_of (decision_of x) ≡ 0 → ⊥) → plan_given (decision_of x) ≡ no_plan
+  refusal_plan = zeros_given (decision_of x)
 
-  pub refusal_plan : (number_of (decision_of x).answer ≡ 0 → ⊥) → (decision_of x).plan ≡ no_plan
-  unfolding decision_of decided_by
-  refusal_plan h = rw (not_load h)
-
-  refusal_window : (w : List ℕ) → (number_of (decision_of x).answer ≡ 0 → ⊥) → memory_after x w ≡ w
-  unfolding memory_after
-  refusal_window w h = rw (not_load h)
+  refusal_window : (w : List ℕ) (d : Decision) → decision_of x ≡ d → (number_of d ≡ 0 → ⊥) → memory_after x w ≡ w
+  refusal_window w (Ok q) e h = absurd (h refl)
+  refusal_window w (Err r) e h = sym (memory_refused x r e w)
 
   -- a number is given exactly where its check is the first that applies
-  refusal_is : (k : ℕ) → 1 ≤ k → (number_of (decision_of x).answer ≡ k) ↔ ((holds_in x k ≡ true) × ((j : ℕ) → Before j k → holds_in x j ≡ false))
+  refusal_is : (k : ℕ) → 1 ≤ k → (number_of (decision_of x) ≡ k) ↔ ((holds_in x k ≡ true) × ((j : ℕ) → Before j k → holds_in x j ≡ false))
+  unfolding decision_of
   refusal_is k l = (
-    λ h. rw (← numbers_are) (number_first (checks x) k numbered l (ap number_of (sym decided_answer) ∙ h)),
-    λ h. ap number_of (decided_answer ∙ first_answer (checks x) k numbered h.0 (rw numbers_are h.1)) ∙ answer_number (checks x) k h.0,
+    λ h. rw (← numbers_are) (number_first (checks x) (plan_in x) k numbered l h),
+    λ h. ap number_of (first_answer (checks x) (plan_in x) k numbered h.0 (rw numbers_are h.1)) ∙ answer_number (checks x) (plan_in x) k h.0,
   )
 
-  none_is : (number_of (decision_of x).answer ≡ 0) ↔ ((k : ℕ) → holds_in x k ≡ false)
-  none_is = (
-    λ h. none_applies (checks x) checks_refuse (ap number_of (sym decided_answer) ∙ h),
-    λ h. ap number_of decided_answer ∙ none_given (checks x) numbered h,
-  )
+  none_is : (number_of (decision_of x) ≡ 0) ↔ ((k : ℕ) → holds_in x k ≡ false)
+  unfolding decision_of
+  none_is = (none_applies (checks x) (plan_in x), none_given (checks x) (plan_in x) numbered)
 
   -- 16 has the index of a module for its item
-  pub room_item : number_of (decision_of x).answer ≡ 16 → (item_of (decision_of x).answer ≡ (placed_in x).done) × ((placed_in x).done < module_count x.submission) × GoodSubmission x.submission
-  unfolding place_in answer_for applies_for only_if checks lent_checks submission_checks operator_checks window_checks map_checks header_checks load_checks field_checks kind_checks entry_checks elf_checks image_checks kernel_checks room_checks layout_of
+  pub room_item : number_of (decision_of x) ≡ 16 → (item_of (decision_of x) ≡ (placed_in x).done) × ((placed_in x).done < module_count x.submission) × GoodSubmission x.submission
+  unfolding place_in answer_for applies_for only_if decision_of checks lent_checks submission_checks operator_checks window_checks map_checks header_checks load_checks field_checks kind_checks entry_checks elf_checks image_checks kernel_checks room_checks layout_of
   room_item e =
-      let f = number_first (checks x) 16 numbered (omega arith) (ap number_of (sym decided_answer) ∙ e) in
+      let f = number_first (checks x) (plan_in x) 16 numbered (omega arith) e in
       let early : Before 2 16 = omega arith in (
-        ap item_of (decided_answer ∙ first_answer (checks x) 16 numbered f.0 f.1),
+        ap item_of (first_answer (checks x) (plan_in x) 16 numbered f.0 f.1),
         ltb-true _ _ f.0,
         (submission_good_is x.submission).0 (not-false _ (f.1 2 (rw numbers_are early))),
       )
 
   -- 6 has the count of false headers for its item, and no header was found
-  pub header_item : number_of (decision_of x).answer ≡ 6 → (item_of (decision_of x).answer ≡ false_headers (image_in x)) × (header (image_in x) ≡ None)
-  unfolding place_in answer_for applies_for only_if checks lent_checks submission_checks operator_checks window_checks map_checks header_checks load_checks field_checks kind_checks entry_checks elf_checks image_checks kernel_checks room_checks layout_of
+  pub header_item : number_of (decision_of x) ≡ 6 → (item_of (decision_of x) ≡ false_headers (image_in x)) × (header (image_in x) ≡ None)
+  unfolding place_in answer_for applies_for only_if decision_of checks lent_checks submission_checks operator_checks window_checks map_checks header_checks load_checks field_checks kind_checks entry_checks elf_checks image_checks kernel_checks room_checks layout_of
   header_item e =
-      let f = number_first (checks x) 6 numbered (omega arith) (ap number_of (sym decided_answer) ∙ e) in
-      (ap item_of (decided_answer ∙ first_answer (checks x) 6 numbered f.0 f.1), found_nothing (header (image_in x)) f.0)
+      let f = number_first (checks x) (plan_in x) 6 numbered (omega arith) e in
+      (ap item_of (first_answer (checks x) (plan_in x) 6 numbered f.0 f.1), found_nothing (header (image_in x)) f.0)
 
   -- a number that is not in the order of checks has no condition
   other_none : (k : ℕ) → length check_order ≤ place_in check_order k → holds_in x k ≡ false
   other_none k l = applies_other (checks x) k (rw numbers_are (omega (arith, checks_many)))
 
   -- and is not given
-  not_given : {k : ℕ} → number_of (decision_of x).answer ≡ k → 1 ≤ k → length check_order ≤ place_in check_order k → ⊥
+  not_given : {k : ℕ} → number_of (decision_of x) ≡ k → 1 ≤ k → length check_order ≤ place_in check_order k → ⊥
   not_given {k} e l m = false≢true (sym (other_none k m) ∙ ((refusal_is k l).0 e).0)
 
   pub answered : (w : List ℕ) → Answered (decision_of x) w (memory_after x w) (holds_in x)
@@ -279,7 +274,7 @@ module _ (x : Lent) where
         load = none_is;
         other = other_none;
         no_eleven = λ e. not_given e (omega arith) (omega arith);
-        item = item_none (decision_of x).answer;
+        item = item_none (decision_of x);
         plan = refusal_plan;
-        window = refusal_window w;
+        window = refusal_window w (decision_of x) refl;
       }

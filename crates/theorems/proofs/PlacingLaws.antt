@@ -1,21 +1,21 @@
 -- The third promise: the kernel, and each item at its lowest place beside it, no room exactly where there is none.
 --     on_memory    wherever none before 15 holds
 -- Assumes nothing.
-use Rattle.std.specs.Prelude.{◌≡◌, true, false, Bool, cond, ◌↔◌, ℕ, ◌+◌, ◌≤◌, ◌<◌}
+use Rattle.std.specs.Prelude.{◌≡◌, true, false, Bool, cond, Ok, Err, ◌↔◌, ℕ, ◌+◌, ◌≤◌, ◌<◌}
 use Rattle.std.proofs.Math.Path.{refl, sym, ap}
 use Rattle.std.proofs.Common.{◌∙◌, subst, arith}
 use mathlib.Core.List.{List}
 use Rattle.std.proofs.Math.Logic.{⊎_elim}
-use borrow.Author.Tests.{lt-ltb, le-ltb, not-false, eq-eqb}
+use borrow.Author.Tests.{lt-ltb, le-ltb, not-false}
 use Rattle.std.proofs.Math.ListN.{length}
-use Rattle.laws.specs.Checks.{first_of, only_if}
+use Rattle.laws.specs.Checks.{first_of, passes, only_if}
 use Rattle.laws.proofs.TableLaws.{table_at}
 use Rattle.laws.proofs.TestLaws.{lt_or_le, not_is, all_elim, all_intro}
 use Rattle.address.specs.declared.Span.{Span}
 use Rattle.address.specs.Address.{boundary_of}
 use Rattle.address.specs.Span.{no_span, span_no, Holds}
-use Rattle.answer.specs.Answer.{is_load, number_of}
-use Rattle.answer.specs.ChainLaws.{numbers, distinct, applies_for, applies_other, applies_front, chain_append, or_else_second, none_given}
+use Rattle.answer.specs.Answer.{number_of}
+use Rattle.answer.specs.ChainLaws.{numbers, distinct, applies_for, applies_other, applies_front, none_given, number_load as chain_load}
 use Rattle.answer.specs.Chain.{check_order, place_in, Before}
 use Rattle.answer.specs.declared.Refusal.TheVariants.{NoRoomForModule, NoRoomForBlock}
 use Rattle.submission.specs.Rules.{submission_checks}
@@ -43,52 +43,52 @@ use Rattle.items.specs.LoadItemsLaws.{item_at, item_module, item_block}
 use Rattle.decision.specs.Lent.{Lent}
 use Rattle.decision.specs.Read.{layout_in, image_in, kernel_in, board_in, block_length_in}
 use Rattle.decision.specs.Decided.{kernel_open, kernel_checks, room_checks, memory_checks, plan_of, extent_open}
+use Rattle.decision.specs.Plan.{plan_given}
 use Rattle.decision.specs.Decision.{lent_checks, checks, placed_in, decision_of, plan_in}
-use Rattle.decision.specs.DecisionLaws.{lent_refuses, lent_passed, prepared, LentPassed}
+use Rattle.decision.specs.DecisionLaws.{lent_passed, prepared, LentPassed, decided_on}
 use Rattle.decision.specs.PlacedLaws.{load_in_order}
-use Rattle.decision.specs.StageLaws.{kernel_refuses}
 use Rattle.loader.specs.LoadLaws.{Loads, module_span, block_span, span_apart, loads, all_done, modules_past}
 use Rattle.theorems.proofs.SizeLaws.{block_size_lem}
-use Rattle.theorems.proofs.AnsweredLaws.{holds_in, numbers_are, decided_answer, number_load, load_plan}
+use Rattle.theorems.proofs.AnsweredLaws.{holds_in, numbers_are, number_load, load_plan}
 use Rattle.theorems.specs.Promises.{Open, block_size, Planned, Placing, OnMemory}
 
 -- what the checks of the room answer
-module _ (done n : ℕ) where
-  room_module : done < n → first_of (room_checks done n) Load ≡ NoRoomForModule done
+module _ {A : Type 0} (done n : ℕ) (z : A) where
+  room_module : done < n → first_of (room_checks done n) z ≡ Err (NoRoomForModule done)
   unfolding first_of room_checks
   room_module l = rw (lt-ltb done n l)
 
-  room_block : done ≡ n → first_of (room_checks done n) Load ≡ NoRoomForBlock
+  room_block : done ≡ n → first_of (room_checks done n) z ≡ Err NoRoomForBlock
   unfolding first_of room_checks
   room_block e = rw (le-ltb done n (omega arith), lt-ltb done (n + 1) (omega arith))
 
-  room_load : n < done → first_of (room_checks done n) Load ≡ Load
+  room_load : n < done → first_of (room_checks done n) z ≡ Ok z
   unfolding first_of room_checks
   room_load l = rw (le-ltb done n (omega arith), le-ltb done (n + 1) (omega arith))
 
   -- where a module is named there is such a module, and placing ended at it
-  module_short : (i : ℕ) → first_of (room_checks done n) Load ≡ NoRoomForModule i → done < n
+  module_short : (i : ℕ) → first_of (room_checks done n) z ≡ Err (NoRoomForModule i) → done < n
   module_short i e =
       ⊎_elim
       (λ (l : done < n). l)
       (λ (l : n ≤ done).
       ⊎_elim
-      (λ (m : done < n + 1). let z : ◌≡◌ {A = ℕ} 0 1 = cc (room_block (omega arith)) in absurd (omega arith))
-      (λ (m : n + 1 ≤ done). let z : ◌≡◌ {A = ℕ} 0 1 = cc (room_load (omega arith)) in absurd (omega arith))
+      (λ (m : done < n + 1). let f : ◌≡◌ {A = ℕ} 0 1 = cc (room_block (omega arith)) in absurd (omega arith))
+      (λ (m : n + 1 ≤ done). let f : ◌≡◌ {A = ℕ} 0 1 = cc (room_load (omega arith)) in absurd (omega arith))
       (lt_or_le done (n + 1)))
       (lt_or_le done n)
 
-  is_module : (i : ℕ) → first_of (room_checks done n) Load ≡ NoRoomForModule i → done ≡ i
+  is_module : (i : ℕ) → first_of (room_checks done n) z ≡ Err (NoRoomForModule i) → done ≡ i
   is_module i e = cc (room_module (module_short i e))
 
-  is_block : first_of (room_checks done n) Load ≡ NoRoomForBlock → done ≡ n
+  is_block : first_of (room_checks done n) z ≡ Err NoRoomForBlock → done ≡ n
   is_block e =
       ⊎_elim
-      (λ (l : done < n). let z : ◌≡◌ {A = ℕ} 0 1 = cc (room_module l) in absurd (omega arith))
+      (λ (l : done < n). let f : ◌≡◌ {A = ℕ} 0 1 = cc (room_module l) in absurd (omega arith))
       (λ (l : n ≤ done).
       ⊎_elim
       (λ (m : done < n + 1). omega arith)
-      (λ (m : n + 1 ≤ done). let z : ◌≡◌ {A = ℕ} 0 1 = cc (room_load (omega arith)) in absurd (omega arith))
+      (λ (m : n + 1 ≤ done). let f : ◌≡◌ {A = ℕ} 0 1 = cc (room_load (omega arith)) in absurd (omega arith))
       (lt_or_le done (n + 1)))
       (lt_or_le done n)
 
@@ -156,8 +156,8 @@ module _ (x : Lent) (r : (k : ℕ) → Before k 15 → holds_in x k ≡ false) w
       (λ (l : length (lent_checks x) ≤ place_in (numbers (lent_checks x)) k). applies_other (lent_checks x) k l)
       (lt_or_le (place_in (numbers (lent_checks x)) k) (length (lent_checks x)))
 
-  lent_load : is_load (first_of (lent_checks x) Load) ≡ true
-  lent_load = eq-eqb _ _ (none_given (lent_checks x) lent_numbers lent_none)
+  lent_load : passes (lent_checks x) ≡ true
+  lent_load = chain_load (lent_checks x) (tt {0}) (none_given (lent_checks x) (tt {0}) lent_numbers lent_none)
 
   known : LentPassed x
   known = lent_passed x lent_load
@@ -168,19 +168,10 @@ module _ (x : Lent) (r : (k : ℕ) → Before k 15 → holds_in x k ≡ false) w
     unfolding applies_for only_if checks lent_checks submission_checks operator_checks window_checks map_checks header_checks load_checks field_checks kind_checks entry_checks elf_checks image_checks kernel_checks room_checks
     opened = not-false _ r15
 
-    kernel_load : is_load (first_of (kernel_checks (board_in x) (kernel_in x)) Load) ≡ true
-    unfolding first_of kernel_checks
-    kernel_load = rw opened
-
-    -- the answer is that of the room
-    room_answer : (decision_of x).answer ≡ first_of (room_checks (placed_in x).done (layout_in x).count) Load
-    unfolding checks
-    room_answer =
-        decided_answer x
-        ∙ rw (chain_append (lent_checks x) (memory_checks (board_in x) (kernel_in x) (layout_in x) (block_length_in x)) (lent_refuses x))
-        (or_else_second _ _ lent_load
-        ∙ chain_append (kernel_checks (board_in x) (kernel_in x)) (room_checks (placed_in x).done (layout_in x).count) (kernel_refuses (board_in x) (kernel_in x))
-        ∙ or_else_second _ _ kernel_load)
+    -- the decision is that of the room
+    room_decision : decision_of x ≡ first_of (room_checks (placed_in x).done (layout_in x).count) (plan_in x)
+    unfolding kernel_checks first_of
+    room_decision = rw opened at (sym (decided_on x lent_load))
 
     order : InOrder (is_open (board_in x)) (extents_of (kernel_in x)) (items_of (layout_in x) (kernel_in x).pages (block_length_in x)) (placed_in x)
     order = load_in_order (board_in x) (kernel_in x) (layout_in x) (block_length_in x) (prepared x known)
@@ -238,7 +229,7 @@ module _ (x : Lent) (r : (k : ℕ) → Before k 15 → holds_in x k ≡ false) w
           apart = span_apart x h;
         }
 
-    load_planned : number_of (decision_of x).answer ≡ 0 → ((placed_in x).done ≡ module_count x.submission + 1) × Planned x (kernel_in x) (placed_in x).spans.list (decision_of x).plan
+    load_planned : number_of (decision_of x) ≡ 0 → ((placed_in x).done ≡ module_count x.submission + 1) × Planned x (kernel_in x) (placed_in x).spans.list (plan_given (decision_of x))
     load_planned e =
         let h = loads x (number_load x e) in
         (all_done x h ∙ omega (arith, layout_count x.submission), rw (load_plan x e) (planned h))
@@ -254,16 +245,16 @@ module _ (x : Lent) (r : (k : ℕ) → Before k 15 → holds_in x k ≡ false) w
           block = λ l. stood (layout_in x).count _ block_item_lem l;
           no_room = λ i l m.
               let e = ended i _ (module_item_lem i l) (omega arith) m in (
-                λ z. e.0 (is_module _ _ i (sym room_answer ∙ z)),
-                λ s. let d = e.1 s in room_answer ∙ room_module _ _ (omega arith) ∙ ap NoRoomForModule d,
+                λ z. e.0 (is_module _ _ _ i (sym room_decision ∙ z)),
+                λ s. let d = e.1 s in room_decision ∙ room_module _ _ _ (omega arith) ∙ ap (λ (j : ℕ). Err (NoRoomForModule j)) d,
               );
           no_room_block = λ m.
               let e = ended (layout_in x).count _ block_item_lem (omega arith) m in (
-                λ z. e.0 (is_block _ _ (sym room_answer ∙ z)),
-                λ s. room_answer ∙ room_block _ _ (e.1 s),
+                λ z. e.0 (is_block _ _ _ (sym room_decision ∙ z)),
+                λ s. room_decision ∙ room_block _ _ _ (e.1 s),
               );
-          at_module = λ i z. let e = is_module _ _ i (sym room_answer ∙ z) in (e, omega (arith, module_short _ _ i (sym room_answer ∙ z)));
-          at_block = λ z. is_block _ _ (sym room_answer ∙ z);
+          at_module = λ i z. let e = is_module _ _ _ i (sym room_decision ∙ z) in (e, omega (arith, module_short _ _ _ i (sym room_decision ∙ z)));
+          at_block = λ z. is_block _ _ _ (sym room_decision ∙ z);
           load = load_planned;
         }
 

@@ -8,6 +8,7 @@ use Rattle.std.proofs.lemmas.Bool.{false≢true}
 use mathlib.Core.List.{List, [], ◌∷◌, ◌++◌}
 use Rattle.std.proofs.Math.ListN.{length, take, length-map}
 use Rattle.laws.proofs.TestLaws.{run_says}
+use Rattle.laws.specs.Checks.{passes}
 use Rattle.laws.specs.Tests.{run}
 use Rattle.laws.proofs.TableLaws.{take_listed}
 use Rattle.buffer.specs.Patched.{patched}
@@ -19,7 +20,6 @@ use Rattle.number.specs.NumberLaws.{number_at_inside}
 use Rattle.address.specs.Address.{floor}
 use Rattle.address.specs.Span.{span_no}
 use Rattle.address.specs.declared.Span.{Span}
-use Rattle.answer.specs.Answer.{is_load}
 use Rattle.submission.specs.Layout.{bytes_of, layout_of, module_no, module_of}
 use Rattle.submission.specs.declared.Module.{Module}
 use Rattle.submission.specs.Format.{module_count, string_length, string_bytes}
@@ -27,7 +27,7 @@ use Rattle.submission.specs.FormatLaws.{layout_count, module_at, length-bytes_of
 use Rattle.submission.specs.RuleLaws.{string_inside}
 use Rattle.memory_map.specs.declared.MemoryMap.{MemoryMap}
 use Rattle.memory_map.specs.Map.{map_of}
-use Rattle.memory_map.specs.Parse.{parsed_map}
+use Rattle.memory_map.specs.Parse.{pairs_read}
 use Rattle.memory_map.specs.PairsLaws.{parsed_good}
 use Rattle.usable.specs.Usable.{address_space, is_usable}
 use Rattle.usable.specs.Sizes.{mem_lower, mem_upper}
@@ -36,7 +36,7 @@ use Rattle.usable.proofs.UsableLaws.{usable_bytes, usable_is}
 use Rattle.decision.specs.Lent.{Lent}
 use Rattle.decision.specs.Read.{layout_in, kernel_in, line_in, block_length_in}
 use Rattle.decision.specs.Decided.{plan_of}
-use Rattle.decision.specs.Decision.{answer_of, plan_in}
+use Rattle.decision.specs.Decision.{checks, plan_in}
 use Rattle.block.specs.Block.{mem_lower_offset, mem_upper_offset, cmdline_offset, mods_count_offset, mods_addr_offset, mmap_length_offset, mmap_addr_offset, boot_loader_name_offset, flags_offset, structure_size, module_entry_size, loader_name, texts_size, address_of, map_offset, name_offset, line_offset, strings_offset, structure_for, structure_of, string_lengths, block_of, block_length, flags_of, BootModule}
 use Rattle.block.specs.TextLaws.{size_some, address_some, length-string_lengths, block_length_lem, flags_some, address_none}
 use Rattle.block.specs.Reading.{length_of, BlockSmall, FieldsRead, EntryRead, boot_module_no, string_offset, string_address, lengths_of}
@@ -69,10 +69,10 @@ module _ (x : Lent) (h : Loads x) where
   unfolding contents_in
   modules_length = length_loaded x.submission (layout_in x) (plan_in x).modules (layout_in x).count
 
-  sizes_read : (parsed_map x.map).map ≡ map_of x.map
-  sizes_read = rw (← parsed_good x.map h.passed.map) refl
+  sizes_read : pairs_read x.map ≡ map_of x.map
+  sizes_read = rw (parsed_good x.map h.passed.map) refl
 
-  module _ (w : List ℕ) (n : length w ≡ x.size) (load : is_load (answer_of x) ≡ true) where
+  module _ (w : List ℕ) (n : length w ≡ x.size) (load : passes (checks x) ≡ true) where
     -- the block is the last write
     memory_last : memory_after x w ≡ patched (written w (segment_writes x ++ module_writes x)) ((plan_in x).block.start.0 - x.first) (block_of (contents_in x))
     unfolding memory_after writes_of block_write written
@@ -112,7 +112,7 @@ module _ (x : Lent) (h : Loads x) where
     module_is : (i : ℕ) → i < (layout_in x).count → ((boot_module_no (contents_in x) i).start ≡ (span_no (plan_in x).modules i).start.0) × ((boot_module_no (contents_in x) i).end ≡ (span_no (plan_in x).modules i).end.0)
     unfolding contents_in
     module_is i l =
-        let e = load_module x.submission (layout_in x) (plan_in x).modules x.map (line_in x) (plan_in x).block.start.0 (mem_lower (parsed_map x.map).map) (mem_upper (parsed_map x.map).map) i l in
+        let e = load_module x.submission (layout_in x) (plan_in x).modules x.map (line_in x) (plan_in x).block.start.0 (mem_lower (pairs_read x.map)) (mem_upper (pairs_read x.map)) i l in
         (ap (λ (m : BootModule). m.start) e, ap (λ (m : BootModule). m.end) e)
 
     -- the length of the block, part by part
@@ -136,7 +136,7 @@ module _ (x : Lent) (h : Loads x) where
 
     string_is : (i : ℕ) → i < (layout_in x).count → (boot_module_no (contents_in x) i).string ≡ bytes_of x.submission (module_no (layout_in x) i).string
     unfolding contents_in
-    string_is i l = ap (λ (m : BootModule). m.string) (load_module x.submission (layout_in x) (plan_in x).modules x.map (line_in x) (plan_in x).block.start.0 (mem_lower (parsed_map x.map).map) (mem_upper (parsed_map x.map).map) i l)
+    string_is i l = ap (λ (m : BootModule). m.string) (load_module x.submission (layout_in x) (plan_in x).modules x.map (line_in x) (plan_in x).block.start.0 (mem_lower (pairs_read x.map)) (mem_upper (pairs_read x.map)) i l)
 
     string_read : (i : ℕ) → i < (layout_in x).count → (length (bytes_of x.submission (module_no (layout_in x) i).string) ≡ 0 → ⊥) → bytes_from x (memory_after x w) (string_address (contents_in x) i) (length (bytes_of x.submission (module_no (layout_in x) i).string) + 1) ≡ bytes_of x.submission (module_no (layout_in x) i).string ++ (0 ∷ [])
     unfolding block_length contents_in

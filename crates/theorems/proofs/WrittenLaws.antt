@@ -10,6 +10,7 @@ use native.Mathlib.Omega.{arith}
 use Rattle.std.proofs.Math.ListN.{length, get_or, length-append, get_or-append}
 use Rattle.std.proofs.lemmas.List.{length-replicate, get_or-replicate}
 use Rattle.std.proofs.Math.Seq.{get_or_at, get_or-append-add}
+use Rattle.laws.specs.Checks.{passes}
 use Rattle.laws.proofs.TableLaws.{length_listed, listed_at}
 use Rattle.laws.proofs.TestLaws.{lt_or_le}
 use Rattle.buffer.specs.Patched.{zeros}
@@ -17,7 +18,6 @@ use Rattle.buffer.specs.Writes.{written}
 use Rattle.buffer.specs.WritesLaws.{no_write, write_no, Reaches, length_written, written_outside, written_inside}
 use Rattle.address.specs.declared.Span.{Span}
 use Rattle.address.specs.Span.{Holds, span_no}
-use Rattle.answer.specs.Answer.{is_load}
 use Rattle.submission.specs.declared.Module.{Module}
 use Rattle.submission.specs.declared.Part.{Part}
 use Rattle.submission.specs.Format.{module_count}
@@ -33,7 +33,7 @@ use Rattle.board.proofs.OpenLaws.{open_is}
 use Rattle.decision.specs.Lent.{Lent}
 use Rattle.decision.specs.Read.{layout_in, image_in, kernel_in, line_in, board_in}
 use Rattle.decision.specs.Decided.{plan_of}
-use Rattle.decision.specs.Decision.{answer_of, plan_in}
+use Rattle.decision.specs.Decision.{checks, plan_in}
 use Rattle.block.specs.WritingLaws.{length_load}
 use Rattle.loader.specs.Memory.{segment_write, segment_writes, module_write, module_writes, contents_in, block_write, writes_of, memory_after}
 use Rattle.loader.specs.LoadLaws.{Loads, span_in, count_in, span_open, span_inside, span_apart, kernel_span, module_span, block_span, module_span_length, block_span_length}
@@ -170,7 +170,7 @@ module _ (x : Lent) (h : Loads x) where
       let i = span_inside x h j l in
       (omega (arith, o.at, o.size, i.low), omega (arith, o.at, o.size, i.low))
 
-  module _ (w : List ℕ) (n : length w ≡ x.size) (load : is_load (answer_of x) ≡ true) where
+  module _ (w : List ℕ) (n : length w ≡ x.size) (load : passes (checks x) ≡ true) where
     memory_is : memory_after x w ≡ written w (writes_of x)
     unfolding memory_after
     memory_is = rw load refl

@@ -12,7 +12,7 @@
 --     Promised    all of it: PromisesLaws says that it holds
 -- x is what is lent, d the decision on it and q its plan; w is the window before and v after; s is the submission.
 -- Assumes nothing.
-use Rattle.std.specs.Prelude.{◌≡◌, Bool, true, false, cond, List, [], ◌∷◌, ◌++◌, ◌↔◌, ◌⊎◌, ℕ, ◌+◌, ◌*◌, ◌-◌, ◌/◌, ◌%◌, ◌^◌, ◌≤◌, ◌<◌, min, eqb, length, get_or, take, drop}
+use Rattle.std.specs.Prelude.{◌≡◌, Bool, true, false, cond, List, [], ◌∷◌, ◌++◌, ◌↔◌, ◌⊎◌, ℕ, ◌+◌, ◌*◌, ◌-◌, ◌/◌, ◌%◌, ◌^◌, ◌≤◌, ◌<◌, min, eqb, length, get_or, take, drop, Err}
 use Rattle.laws.specs.HowMany.{HowMany}
 use Rattle.number.specs.Number.{number_at}
 use Rattle.address.specs.Span.{no_span, span_no, Holds}
@@ -36,9 +36,8 @@ use Rattle.memory_map.specs.GoodMap.{GoodMap}
 use Rattle.usable.specs.UsableAddress.{Usable, Stretch}
 use Rattle.placement.specs.Placing.{Suits, Stands}
 use Rattle.decision.specs.declared.Plan.{Plan}
-use Rattle.decision.specs.declared.Decision.{Decision}
 use Rattle.decision.specs.Lent.{Lent}
-use Rattle.decision.specs.Plan.{no_plan}
+use Rattle.decision.specs.Plan.{Decision, no_plan, plan_given}
 use Rattle.block.specs.TextSize.{text_size, strings_size}
 
 -- an address is open: usable, inside the window, and not below 0x500
@@ -93,24 +92,24 @@ pub record Conditions (x : Lent) (c : ℕ → Bool) : Type 0 where
 -- 1. the answer
 pub record Answered (d : Decision) (w v : List ℕ) (c : ℕ → Bool) : Type 0 where
   -- the number k is given exactly where its condition holds, and none that is checked before it
-  pub refusal : (k : ℕ) → 1 ≤ k → (number_of d.answer ≡ k) ↔ ((c k ≡ true) × ((j : ℕ) → Before j k → c j ≡ false))
+  pub refusal : (k : ℕ) → 1 ≤ k → (number_of d ≡ k) ↔ ((c k ≡ true) × ((j : ℕ) → Before j k → c j ≡ false))
   -- 0 is given exactly where none holds
-  pub load : (number_of d.answer ≡ 0) ↔ ((k : ℕ) → c k ≡ false)
+  pub load : (number_of d ≡ 0) ↔ ((k : ℕ) → c k ≡ false)
   -- a number that is not in the order of checks has no condition, so that it is not given
   pub other : (k : ℕ) → length check_order ≤ place_in check_order k → c k ≡ false
   -- 11 is such a number: no load with load_end_addr 0 is empty
-  pub no_eleven : number_of d.answer ≡ 11 → ⊥
+  pub no_eleven : number_of d ≡ 11 → ⊥
   -- every answer but 6 and 16 has the item 0
-  pub item : (number_of d.answer ≡ 6 → ⊥) → (number_of d.answer ≡ 16 → ⊥) → item_of d.answer ≡ 0
-  -- a refusal has a plan of zeros, and leaves the window as it was
-  pub plan : (number_of d.answer ≡ 0 → ⊥) → d.plan ≡ no_plan
-  pub window : (number_of d.answer ≡ 0 → ⊥) → v ≡ w
+  pub item : (number_of d ≡ 6 → ⊥) → (number_of d ≡ 16 → ⊥) → item_of d ≡ 0
+  -- a refusal's plan is zeros, and a refusal leaves the window as it was
+  pub plan : (number_of d ≡ 0 → ⊥) → plan_given d ≡ no_plan
+  pub window : (number_of d ≡ 0 → ⊥) → v ≡ w
 
 -- so many numbers k have a false header at 4k: a load's plan counts those below its header, the item of 6 those in the first
 -- 8,192 bytes; Announced says that the header is the lowest
 pub record Counted (image : List ℕ) (d : Decision) : Type 0 where
-  pub load : number_of d.answer ≡ 0 → HowMany (λ k. FalseHeaderAt image (4 * k)) (d.plan.kernel.header.0 / 4) d.plan.kernel.false_headers
-  pub none : number_of d.answer ≡ 6 → HowMany (λ k. FalseHeaderAt image (4 * k)) 2048 (item_of d.answer)
+  pub load : number_of d ≡ 0 → HowMany (λ k. FalseHeaderAt image (4 * k)) ((plan_given d).kernel.header.0 / 4) (plan_given d).kernel.false_headers
+  pub none : number_of d ≡ 6 → HowMany (λ k. FalseHeaderAt image (4 * k)) 2048 (item_of d)
 
 -- the command line in force, and the length of the information block: structure, entries, map, name, command line, strings
 abbrev pub line_of : Lent → List ℕ
@@ -158,13 +157,13 @@ pub record Placing (x : Lent) (k : Kernel) (d : Decision) : Type 0 where
   pub modules : (i : ℕ) → i < module_count x.submission → i < done → Stands (Open x) spans (k.count + i) (data_length x.submission i) (cond k.pages 4096 4) (module_ceiling x i)
   pub block : module_count x.submission < done → Stands (Open x) spans (k.count + module_count x.submission) (block_size x) 4 (2 ^ 32)
   -- with those before it placed, no room is answered exactly where no address suits
-  pub no_room : (i : ℕ) → i < module_count x.submission → i ≤ done → (d.answer ≡ NoRoomForModule i) ↔ ((a : ℕ) → Suits (Open x) spans (k.count + i) (data_length x.submission i) (cond k.pages 4096 4) (module_ceiling x i) a → ⊥)
-  pub no_room_block : module_count x.submission ≤ done → (d.answer ≡ NoRoomForBlock) ↔ ((a : ℕ) → Suits (Open x) spans (k.count + module_count x.submission) (block_size x) 4 (2 ^ 32) a → ⊥)
+  pub no_room : (i : ℕ) → i < module_count x.submission → i ≤ done → (d ≡ Err (NoRoomForModule i)) ↔ ((a : ℕ) → Suits (Open x) spans (k.count + i) (data_length x.submission i) (cond k.pages 4096 4) (module_ceiling x i) a → ⊥)
+  pub no_room_block : module_count x.submission ≤ done → (d ≡ Err NoRoomForBlock) ↔ ((a : ℕ) → Suits (Open x) spans (k.count + module_count x.submission) (block_size x) 4 (2 ^ 32) a → ⊥)
   -- placing ended at the one that the answer names
-  pub at_module : (i : ℕ) → d.answer ≡ NoRoomForModule i → (done ≡ i) × (i < module_count x.submission)
-  pub at_block : d.answer ≡ NoRoomForBlock → done ≡ module_count x.submission
+  pub at_module : (i : ℕ) → d ≡ Err (NoRoomForModule i) → (done ≡ i) × (i < module_count x.submission)
+  pub at_block : d ≡ Err NoRoomForBlock → done ≡ module_count x.submission
   -- in a load all did, and this is its plan
-  pub load : number_of d.answer ≡ 0 → (done ≡ module_count x.submission + 1) × Planned x k spans d.plan
+  pub load : number_of d ≡ 0 → (done ≡ module_count x.submission + 1) × Planned x k spans (plan_given d)
 
 -- where none before 15 holds, the kernel is the one that the header asks for, by address fields or by the table of an ELF
 -- image; 15 is that not all of its extents are open
@@ -245,5 +244,5 @@ pub record Promised (x : Lent) (w : List ℕ) (d : Decision) (v : List ℕ) : Ty
   pub answered : Answered d w v holds
   pub counted : Counted (image_bytes x.submission) d
   pub memory : ((k : ℕ) → Before k 15 → holds k ≡ false) → OnMemory x d holds
-  pub written : number_of d.answer ≡ 0 → Written x d.plan w v
-  pub read_back : number_of d.answer ≡ 0 → ReadBack x d.plan v
+  pub written : number_of d ≡ 0 → Written x (plan_given d) w v
+  pub read_back : number_of d ≡ 0 → ReadBack x (plan_given d) v
