@@ -50,9 +50,9 @@ pub(crate) fn part_offsets(count: usize, map_length: usize, line_length: usize) 
 }
 
 // The length of the block for the modules of a submission, a map of `map_length` and a command line of `line_length` bytes.
-pub fn block_length(layout: Layout, map_length: usize, line_length: usize) -> usize
-    requires { (layout.count ≤ max_modules) × (block_length (string_lengths layout layout.count) map_length line_length < 2 ^ 64) }
-    ensures { result ≡ block_length (string_lengths layout layout.count) map_length line_length }
+pub fn block_length(layout: &Layout, map_length: usize, line_length: usize) -> usize
+    requires { (layout.now.count ≤ max_modules) × (block_length (string_lengths layout.now layout.now.count) map_length line_length < 2 ^ 64) }
+    ensures { result ≡ block_length (string_lengths layout.now layout.now.count) map_length line_length }
 {
     let o = part_offsets(layout.count, map_length, line_length);
     let mut size = o.strings;

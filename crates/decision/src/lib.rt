@@ -39,7 +39,7 @@ pub fn decide<'a>(
     let pairs = memory_map::parse(map)?;
     let kernel = image::judge(submission::bytes_of(submission, layout.image))?;
     let line = command_line::in_force(operator, submission);
-    let length = block::size::block_length(layout, map.len(), line.len());
+    let length = block::size::block_length(&layout, map.len(), line.len());
     let board = Board { map: pairs, window };
-    place::decide_memory(board, kernel, layout, length as u64)
+    place::decide_memory(&board, kernel, &layout, length as u64)
 }

@@ -19,20 +19,20 @@ use submission::Layout;
 const BOOT_MAGIC: u32 = 0x2BADB002;
 
 // Whether every address of the kernel's extents is open.
-fn kernel_open(board: Board, kernel: Kernel) -> bool
-    requires { kernel.count ≤ max_segments }
-    ensures { result ≡ kernel_open board kernel }
+fn kernel_open(board: &Board, kernel: &Kernel) -> bool
+    requires { kernel.now.count ≤ max_segments }
+    ensures { result ≡ kernel_open board.now kernel.now }
 {
     (0..kernel.count).all(|i| extent_open(board, kernel, i))
 }
 
 // Whether every address of one extent is open.
 #[tactic(auto, unfolding(crate::specs::Decided::extent_open))]
-fn extent_open(board: Board, kernel: Kernel, i: usize) -> bool
+fn extent_open(board: &Board, kernel: &Kernel, i: usize) -> bool
     requires { i + 1 ≤ max_segments }
-    ensures { result ≡ extent_open board kernel i }
+    ensures { result ≡ extent_open board.now kernel.now i }
 {
-    board.all_open(kernel::extent(kernel, i))
+    board.all_open(kernel.segments[i].extent())
 }
 
 // The answer where `done` of n modules and the information block found room.
@@ -52,9 +52,9 @@ fn check_room(done: usize, n: usize) -> Answer<()>
 
 // The plan of n modules and the information block, placed behind the kernel's extents.
 #[tactic(auto, unfolding(crate::specs::Decided::plan_of))]
-fn plan_of(kernel: Kernel, spans: Spans, n: usize) -> Plan
-    requires { (n ≤ max_modules) × (kernel.count + n < max_spans) × ((span_no spans.list (kernel.count + n)).start.0 < 2 ^ 32) }
-    ensures { result ≡ plan_of kernel spans n }
+fn plan_of(kernel: Kernel, spans: &Spans, n: usize) -> Plan
+    requires { (n ≤ max_modules) × (kernel.count + n < max_spans) × ((span_no spans.now.list (kernel.count + n)).start.0 < 2 ^ 32) }
+    ensures { result ≡ plan_of kernel spans.now n }
 {
     let at = kernel.count + n;
     let block = spans.list[at];
@@ -68,15 +68,15 @@ fn plan_of(kernel: Kernel, spans: Spans, n: usize) -> Plan
 }
 
 // The plan for an accepted kernel with the modules of a submission and an information block of `size` bytes, or 15 to 17.
-pub(crate) fn decide_memory(board: Board, kernel: Kernel, layout: Layout, size: u64) -> Answer<Plan>
-    requires { Prepared board kernel layout size }
-    ensures { result ≡ memory_decision board kernel layout size }
+pub(crate) fn decide_memory(board: &Board, kernel: Kernel, layout: &Layout, size: u64) -> Answer<Plan>
+    requires { Prepared board.now kernel layout.now size }
+    ensures { result ≡ memory_decision board.now kernel layout.now size }
 {
-    if !kernel_open(board, kernel) {
+    if !kernel_open(board, &kernel) {
         return Err(Refusal::KernelNotOpen);
     }
     let items = items::items(layout, kernel.pages, size);
-    let placed = placement::order::place_items(board, items::extents(kernel), items);
+    let placed = placement::order::place_items(board, items::extents(&kernel), &items);
     check_room(placed.done, layout.count)?;
-    Ok(plan_of(kernel, placed.spans, layout.count))
+    Ok(plan_of(kernel, &placed.spans, layout.count))
 }

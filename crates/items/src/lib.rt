@@ -16,9 +16,9 @@ use submission::Layout;
 const MIB: u64 = 0x100000;
 
 // The kernel's extents, as spans taken.
-pub fn extents(kernel: Kernel) -> Spans
-    requires { kernel.count ≤ max_segments }
-    ensures { result ≡ extents_of kernel }
+pub fn extents(kernel: &Kernel) -> Spans
+    requires { kernel.now.count ≤ max_segments }
+    ensures { result ≡ extents_of kernel.now }
 {
     let mut list = [Span::none(); placement::MAX_SPANS];
     for (i, segment) in kernel.segments[..kernel.count].iter().enumerate() {
@@ -31,9 +31,9 @@ pub fn extents(kernel: Kernel) -> Spans
 }
 
 // The modules of a submission, on pages or not, and an information block of `size` bytes, as items.
-pub fn items(layout: Layout, pages: bool, size: u64) -> Items
-    requires { layout.count ≤ max_modules }
-    ensures { result ≡ items_of layout pages size }
+pub fn items(layout: &Layout, pages: bool, size: u64) -> Items
+    requires { layout.now.count ≤ max_modules }
+    ensures { result ≡ items_of layout.now pages size }
 {
     let none = Item {
         length: 0,
@@ -43,7 +43,7 @@ pub fn items(layout: Layout, pages: bool, size: u64) -> Items
     let mut list = [none; placement::MAX_ITEMS];
     let count = layout.count + 1;
     for i in 0..count {
-        list[i] = item(&layout, pages, size, i);
+        list[i] = item(layout, pages, size, i);
     }
     Items { list, count }
 }
@@ -81,9 +81,9 @@ fn ceiling(count: u16) -> PhysAddr
 }
 
 // The spans of `count` modules among those placed, of which the first is at the index `from`.
-pub fn module_spans(spans: Spans, from: usize, count: usize) -> [Span; submission::MAX_MODULES]
+pub fn module_spans(spans: &Spans, from: usize, count: usize) -> [Span; submission::MAX_MODULES]
     requires { (count ≤ max_modules) × (from + count ≤ max_spans) }
-    ensures { result ≡ module_spans spans from count }
+    ensures { result ≡ module_spans spans.now from count }
 {
     let mut list = [Span::none(); submission::MAX_MODULES];
     for (i, span) in spans.list[from..from + count].iter().enumerate() {

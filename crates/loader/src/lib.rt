@@ -23,6 +23,6 @@ pub fn load<'a>(
     ensures window_after { window.new ≡ memory_after (lent submission.now operator.now map.now first (length window.old)) window.old }
 {
     let plan = decision::decide(submission, operator, map, first, window.len())?;
-    write::write_load(window, first, submission, operator, map, plan);
+    write::write_load(window, first, submission, operator, map, &plan);
     Ok(plan)
 }

@@ -27,22 +27,26 @@ pub(crate) fn write_load<'a>(
     submission: &'a [u8],
     operator: &'a [u8],
     map: &[u8],
-    plan: Plan,
+    plan: &Plan,
 )
-    requires { PlanOfLoad (lent submission.now operator.now map.now first (length window.old)) plan }
+    requires { PlanOfLoad (lent submission.now operator.now map.now first (length window.old)) plan.now }
     ensures { window.new ≡ written window.old (writes_of (lent submission.now operator.now map.now first (length window.old))) }
 {
     let base = PhysAddr(first as u64);
     let layout = submission::parse(submission).unwrap();
-    let kernel = plan.kernel;
-    let modules = plan.modules;
-    let block = plan.block;
     let image = submission::bytes_of(submission, layout.image);
-    write_kernel(window, base, image, kernel);
-    write_modules(window, base, submission, layout, modules);
-    let start = block.start;
+    write_kernel(window, base, image, &plan.kernel);
+    write_modules(window, base, submission, &layout, &plan.modules);
+    let start = plan.block.start;
     write_block(
-        window, base, submission, operator, map, layout, modules, start,
+        window,
+        base,
+        submission,
+        operator,
+        map,
+        &layout,
+        &plan.modules,
+        start,
     );
 }
 
@@ -53,19 +57,19 @@ fn write_block<'a>(
     submission: &'a [u8],
     operator: &'a [u8],
     map: &[u8],
-    layout: Layout,
-    modules: [Span; submission::MAX_MODULES],
+    layout: &Layout,
+    modules: &[Span; submission::MAX_MODULES],
     start: PhysAddr,
 )
-    requires { (bad_map map.now ≡ false) × SpansLow layout modules × StringsIn submission.now layout × Room layout (length map.now) (length (command_line operator.now submission.now)) start.0 (start.0 - base.0) (length window.old) }
-    ensures { window.new ≡ patched window.old (start.0 - base.0) (block_of (contents_for submission.now operator.now map.now layout modules start.0)) }
+    requires { (bad_map map.now ≡ false) × SpansLow layout.now modules.now × StringsIn submission.now layout.now × Room layout.now (length map.now) (length (command_line operator.now submission.now)) start.0 (start.0 - base.0) (length window.old) }
+    ensures { window.new ≡ patched window.old (start.0 - base.0) (block_of (contents_for submission.now operator.now map.now layout.now modules.now start.0)) }
 {
     let line = command_line::in_force(operator, submission);
     let pairs = memory_map::parse(map).unwrap();
     let block = Block {
         submission,
-        layout: &layout,
-        spans: &modules,
+        layout,
+        spans: modules,
         map,
         line,
         start,
@@ -76,9 +80,9 @@ fn write_block<'a>(
 }
 
 // Writes the kernel's segments: their load bytes, and zeros over the bss.
-fn write_kernel(window: &mut [u8], base: PhysAddr, image: &[u8], kernel: Kernel)
-    requires { kernel.count ≤ max_segments }
-    ensures { window.new ≡ written window.old (listed (segment_write base.0 image.now kernel) kernel.count) }
+fn write_kernel(window: &mut [u8], base: PhysAddr, image: &[u8], kernel: &Kernel)
+    requires { kernel.now.count ≤ max_segments }
+    ensures { window.new ≡ written window.old (listed (segment_write base.0 image.now kernel.now) kernel.now.count) }
 {
     for segment in &kernel.segments[..kernel.count] {
         write_segment(window, base, image, segment);
@@ -119,13 +123,13 @@ fn write_modules(
     window: &mut [u8],
     base: PhysAddr,
     submission: &[u8],
-    layout: Layout,
-    spans: [Span; submission::MAX_MODULES],
+    layout: &Layout,
+    spans: &[Span; submission::MAX_MODULES],
 )
-    requires { layout.count ≤ max_modules }
-    ensures { window.new ≡ written window.old (listed (module_write base.0 submission.now layout spans) layout.count) }
+    requires { layout.now.count ≤ max_modules }
+    ensures { window.new ≡ written window.old (listed (module_write base.0 submission.now layout.now spans.now) layout.now.count) }
 {
-    for (module, span) in layout.modules[..layout.count].iter().zip(&spans) {
+    for (module, span) in layout.modules[..layout.count].iter().zip(spans) {
         let data = submission::bytes_of(submission, module.data);
         buffer::write_bytes(window, span.start.offset_from(base), data);
     }

@@ -14,9 +14,9 @@ loop-i-init c = ap (replicate max_spans) c.none-list.ensures ∙ table_none _ ma
 pub loop-i-preserved : goal.loop-i-preserved
 loop-i-preserved c =
     let room : c.loop-i.i < max_spans = omega arith in
-    let l : c.loop-i.i < c.args.kernel.count = omega arith in
-    cc (get_or-take c.args.kernel.count c.args.kernel.segments c.loop-i.i no_segment l, table_more (extent_no c.args.kernel) max_spans no_span c.loop-i.i room)
+    let l : c.loop-i.i < c.args.kernel.now.count = omega arith in
+    cc (get_or-take c.args.kernel.now.count c.args.kernel.now.segments c.loop-i.i no_segment l, table_more (extent_no c.args.kernel.now) max_spans no_span c.loop-i.i room)
 
 pub returns : goal.returns
 unfolding extents_of
-returns c = let e : c.loop-i.i ≡ c.args.kernel.count = omega arith in cc
+returns c = let e : c.loop-i.i ≡ c.args.kernel.now.count = omega arith in cc

@@ -11,8 +11,8 @@ loop-i-init c = table_none _ max_items no_item
 pub loop-i-preserved : goal.loop-i-preserved
 loop-i-preserved c =
     let room : c.loop-i.i < max_items = omega arith in
-    cc (table_more (load_item c.args.layout c.args.pages c.args.size) max_items no_item c.loop-i.i room)
+    cc (table_more (load_item c.args.layout.now c.args.pages c.args.size) max_items no_item c.loop-i.i room)
 
 pub returns : goal.returns
 unfolding items_of
-returns c = let e : c.loop-i.i ≡ c.args.layout.count + 1 = omega arith in cc
+returns c = let e : c.loop-i.i ≡ c.args.layout.now.count + 1 = omega arith in cc

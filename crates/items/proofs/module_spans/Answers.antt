@@ -17,7 +17,7 @@ part_at xs a n i z l = get_or-take (a + n - a) (drop a xs) i z l ∙ get_or-drop
 pub loop-i-preserved : goal.loop-i-preserved
 loop-i-preserved c =
     let room : c.loop-i.i < max_modules = omega arith in
-    cc (part_at c.args.spans.list c.args.from c.args.count c.loop-i.i no_span (omega arith), table_more (λ j. span_no c.args.spans.list (c.args.from + j)) max_modules no_span c.loop-i.i room)
+    cc (part_at c.args.spans.now.list c.args.from c.args.count c.loop-i.i no_span (omega arith), table_more (λ j. span_no c.args.spans.now.list (c.args.from + j)) max_modules no_span c.loop-i.i room)
 
 pub returns : goal.returns
 unfolding module_spans

@@ -16,21 +16,21 @@ place_items-placed-requires c = rw (c.extents.ensures, c.items-items.ensures) (i
 
 pub returns-in_err-check_room : goal.returns-in_err-check_room
 returns-in_err-check_room c =
-    let p : c.place_items-placed.result ≡ placed_by c.args.board c.args.kernel c.args.layout c.args.size =
+    let p : c.place_items-placed.result ≡ placed_by c.args.board.now c.args.kernel c.args.layout.now c.args.size =
     placed_is _ _ _ _ _ _ _ c.extents.ensures c.items-items.ensures c.place_items-placed.ensures in
     let e = err_from_is_err_and c.from_residual.result c.from_residual.ensures.1 in
     rw (e.1, e.2) (decided_no_room _ _ _ _ (told c.kernel_open.ensures c.if-not-kernel_open.false) _ (rw p at (sym c.check_room.ensures ∙ c.in_err-check_room.was)))
 
 pub plan_of-requires : goal.plan_of-requires
 plan_of-requires c =
-    let p : c.place_items-placed.result ≡ placed_by c.args.board c.args.kernel c.args.layout c.args.size =
+    let p : c.place_items-placed.result ≡ placed_by c.args.board.now c.args.kernel c.args.layout.now c.args.size =
     placed_is _ _ _ _ _ _ _ c.extents.ensures c.items-items.ensures c.place_items-placed.ensures in
-    let n = all_placed _ _ (ok_passed (room_checks (placed_by c.args.board c.args.kernel c.args.layout c.args.size).done c.args.layout.count) _ _ (rw p at (sym c.check_room.ensures ∙ c.in_ok-check_room.was))).0 in
-    (c.requires.modules, omega (arith, c.requires.modules, c.requires.segments), rw p (span_below _ _ _ _ c.requires n c.args.layout.count (omega arith)))
+    let n = all_placed _ _ (ok_passed (room_checks (placed_by c.args.board.now c.args.kernel c.args.layout.now c.args.size).done c.args.layout.now.count) _ _ (rw p at (sym c.check_room.ensures ∙ c.in_ok-check_room.was))).0 in
+    (c.requires.modules, omega (arith, c.requires.modules, c.requires.segments), rw p (span_below _ _ _ _ c.requires n c.args.layout.now.count (omega arith)))
 
 pub returns : goal.returns
 returns c =
-    let p : c.place_items-placed.result ≡ placed_by c.args.board c.args.kernel c.args.layout c.args.size =
+    let p : c.place_items-placed.result ≡ placed_by c.args.board.now c.args.kernel c.args.layout.now c.args.size =
     placed_is _ _ _ _ _ _ _ c.extents.ensures c.items-items.ensures c.place_items-placed.ensures in
-    let n = (ok_passed (room_checks (placed_by c.args.board c.args.kernel c.args.layout c.args.size).done c.args.layout.count) _ _ (rw p at (sym c.check_room.ensures ∙ c.in_ok-check_room.was))).0 in
+    let n = (ok_passed (room_checks (placed_by c.args.board.now c.args.kernel c.args.layout.now c.args.size).done c.args.layout.now.count) _ _ (rw p at (sym c.check_room.ensures ∙ c.in_ok-check_room.was))).0 in
     rw (c.plan_of.ensures, p) (decided_load _ _ _ _ (told c.kernel_open.ensures c.if-not-kernel_open.false) n)

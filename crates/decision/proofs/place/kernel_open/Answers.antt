@@ -25,5 +25,5 @@ range_all f a (suc n) = rw (range_all f (a + 1) n) (all_front f a n)
 pub returns : goal.returns
 unfolding kernel_open
 returns c =
-    all_from_yields_List (extent_open c.args.board c.args.kernel) _ _ _ c.all.ensures.ran (YieldsList-from_range 0 c.args.kernel.count c.args.kernel.count refl (omega arith)) (λ i b q k. search (rules, tests))
-    ∙ range_all (extent_open c.args.board c.args.kernel) 0 c.args.kernel.count
+    all_from_yields_List (extent_open c.args.board.now c.args.kernel.now) _ _ _ c.all.ensures.ran (YieldsList-from_range 0 c.args.kernel.now.count c.args.kernel.now.count refl (omega arith)) (λ i b q k. search (rules, tests))
+    ∙ range_all (extent_open c.args.board.now c.args.kernel.now) 0 c.args.kernel.now.count

@@ -8,7 +8,7 @@ loop-segment-init c = none_written _ _
 
 pub loop-segment-preserved : goal.loop-segment-preserved
 loop-segment-preserved c =
-    segment_written c.args.base.0 c.args.image.now c.args.kernel c.args.kernel.count _ _ _ c.loop-segment.segment-index (omega arith) c.loop-segment.invariant c.write_segment.ensures
+    segment_written c.args.base.0 c.args.image.now c.args.kernel.now c.args.kernel.now.count _ _ _ c.loop-segment.segment-index (omega arith) c.loop-segment.invariant c.write_segment.ensures
 
 pub returns : goal.returns
-returns c = let e : c.loop-segment.segment-index ≡ c.args.kernel.count = omega arith in rw e at c.loop-segment.invariant
+returns c = let e : c.loop-segment.segment-index ≡ c.args.kernel.now.count = omega arith in rw e at c.loop-segment.invariant

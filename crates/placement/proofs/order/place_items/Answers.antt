@@ -25,12 +25,12 @@ overflow_add-end c =
 
 pub returns-in_default : goal.returns-in_default
 returns-in_default c =
-    let l : c.loop-i.i < c.args.items.count = omega arith in
+    let l : c.loop-i.i < c.args.items.now.count = omega arith in
     sym (c.loop-i.invariant.1 ∙ from_none _ _ _ _ _ _ (get_or-take _ _ _ _ l) l (sym c.lowest_place.ensures ∙ c.in_default.is))
 
 pub loop-i-preserved : goal.loop-i-preserved
 loop-i-preserved c =
-    let l : c.loop-i.i < c.args.items.count = omega arith in
+    let l : c.loop-i.i < c.args.items.now.count = omega arith in
     let w = c.push.ensures in (
       omega (arith, grown _ _ _ w),
       c.loop-i.invariant.1 ∙ (from_at _ _ _ _ _ _ (get_or-take _ _ _ _ l) _ l (sym c.lowest_place.ensures ∙ c.in-Some.is) ∙ ap (placed_from _ _ _ _) (sym w)),
@@ -38,5 +38,5 @@ loop-i-preserved c =
 
 pub returns : goal.returns
 returns c =
-    let e : c.loop-i.i ≡ c.args.items.count = omega arith in
+    let e : c.loop-i.i ≡ c.args.items.now.count = omega arith in
     sym (c.loop-i.invariant.1 ∙ rw e (from_end _ _ _ _ _ (omega arith)))
