@@ -12,7 +12,6 @@ use Rattle.address.specs.Address.{page}
 use Rattle.memory_map.specs.Parse.{pairs_read}
 use Rattle.usable.specs.Usable.{address_space}
 use Rattle.usable.specs.Sizes.{mem_lower, mem_upper}
-use Rattle.placement.specs.declared.Placed.{Placed}
 use Rattle.items.specs.LoadItems.{extents_of, items_of}
 use Rattle.decision.specs.declared.Plan.{Plan}
 use Rattle.decision.specs.Lent.{Lent}

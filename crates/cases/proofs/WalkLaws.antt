@@ -17,11 +17,10 @@ use Rattle.board.specs.Open.{is_open}
 use Rattle.placement.specs.declared.Spans.{Spans}
 use Rattle.placement.specs.declared.Item.{Item}
 use Rattle.placement.specs.declared.Items.{Items}
-use Rattle.placement.specs.declared.Placed.{Placed}
 use Rattle.placement.specs.Free.{is_free}
 use Rattle.placement.specs.FreeEdge.{free_edge}
 use Rattle.placement.specs.Lowest.{under_ceiling, lowest_place}
-use Rattle.placement.specs.Order.{item_no, span_of, with_span, after, placed_from, place_items}
+use Rattle.placement.specs.Order.{Placed, item_no, span_of, with_span, after, placed_from, place_items}
 use Rattle.placement.proofs.StepLaws.{Walked, step_start, step_on, step_past, step_found, step_end, step_ceiling}
 
 module _ (b : Board) (t : Spans) (q : Item) where

@@ -16,8 +16,7 @@ use Rattle.kernel.specs.Kernel.{extent_no}
 use Rattle.board.specs.declared.Board.{Board}
 use Rattle.board.specs.Open.{is_open}
 use Rattle.placement.specs.declared.Spans.{Spans}
-use Rattle.placement.specs.declared.Placed.{Placed}
-use Rattle.placement.specs.Order.{place_items}
+use Rattle.placement.specs.Order.{Placed, place_items}
 use Rattle.items.specs.LoadItems.{extents_of, items_of, module_spans}
 use Rattle.decision.specs.declared.Plan.{Plan}
 use Rattle.decision.specs.Plan.{Decision}

@@ -13,7 +13,7 @@ use Rattle.command_line.specs.CommandLine.{operator_checks}
 use Rattle.image.specs.Judged.{image_checks}
 use Rattle.memory_map.specs.Map.{map_checks}
 use Rattle.board.specs.Window.{window_checks}
-use Rattle.placement.specs.declared.Placed.{Placed}
+use Rattle.placement.specs.Order.{Placed}
 use Rattle.decision.specs.declared.Plan.{Plan}
 use Rattle.decision.specs.Plan.{Decision}
 use Rattle.decision.specs.Lent.{Lent}

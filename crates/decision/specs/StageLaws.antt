@@ -17,8 +17,7 @@ use Rattle.board.specs.declared.Board.{Board}
 use Rattle.board.specs.Open.{is_open}
 use Rattle.placement.specs.declared.Items.{Items}
 use Rattle.placement.specs.declared.Spans.{Spans}
-use Rattle.placement.specs.declared.Placed.{Placed}
-use Rattle.placement.specs.Order.{place_items}
+use Rattle.placement.specs.Order.{Placed, place_items}
 use Rattle.items.specs.LoadItems.{extents_of, items_of}
 use Rattle.decision.specs.Decided.{kernel_open, kernel_checks, room_checks, placed_by, memory_plan, memory_decision}
 

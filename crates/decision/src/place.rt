@@ -52,14 +52,14 @@ fn check_room(done: usize, n: usize) -> Answer<()>
 
 // The plan of n modules and the information block, placed behind the kernel's extents.
 #[tactic(auto, unfolding(crate::specs::Decided::plan_of))]
-fn plan_of(kernel: Kernel, spans: &Spans, n: usize) -> Plan
-    requires { (n ≤ max_modules) × (kernel.count + n < max_spans) × ((span_no spans.now.list (kernel.count + n)).start.0 < 2 ^ 32) }
-    ensures { result ≡ plan_of kernel spans.now n }
+fn plan_of(kernel: &Kernel, spans: &Spans, n: usize) -> Plan
+    requires { (n ≤ max_modules) × (kernel.now.count + n < max_spans) × ((span_no spans.now.list (kernel.now.count + n)).start.0 < 2 ^ 32) }
+    ensures { result ≡ plan_of kernel.now spans.now n }
 {
     let at = kernel.count + n;
     let block = spans.list[at];
     Plan {
-        kernel,
+        kernel: *kernel,
         modules: items::module_spans(spans, kernel.count, n),
         block,
         eax: BOOT_MAGIC,
@@ -68,15 +68,16 @@ fn plan_of(kernel: Kernel, spans: &Spans, n: usize) -> Plan
 }
 
 // The plan for an accepted kernel with the modules of a submission and an information block of `size` bytes, or 15 to 17.
-pub(crate) fn decide_memory(board: &Board, kernel: Kernel, layout: &Layout, size: u64) -> Answer<Plan>
-    requires { Prepared board.now kernel layout.now size }
-    ensures { result ≡ memory_decision board.now kernel layout.now size }
+pub(crate) fn decide_memory(board: &Board, kernel: &Kernel, layout: &Layout, size: u64) -> Answer<Plan>
+    requires { Prepared board.now kernel.now layout.now size }
+    ensures { result ≡ memory_decision board.now kernel.now layout.now size }
 {
-    if !kernel_open(board, &kernel) {
+    if !kernel_open(board, kernel) {
         return Err(Refusal::KernelNotOpen);
     }
     let items = items::items(layout, kernel.pages, size);
-    let placed = placement::order::place_items(board, items::extents(&kernel), &items);
-    check_room(placed.done, layout.count)?;
-    Ok(plan_of(kernel, &placed.spans, layout.count))
+    let mut spans = items::extents(kernel);
+    let done = placement::order::place_items(board, &mut spans, &items);
+    check_room(done, layout.count)?;
+    Ok(plan_of(kernel, &spans, layout.count))
 }

@@ -37,7 +37,7 @@ pub fn judge(image: &[u8], found: FoundHeader) -> Answer<Kernel>
         return Err(Refusal::BadElf);
     }
     let kernel = read_table(image, h, found);
-    kernel::judge_entry(check_table(image, h, &kernel), kernel)
+    kernel::judge_entry(check_table(image, h, &kernel), &kernel)
 }
 
 // The kernel of the table's segments, in table order.

@@ -93,7 +93,7 @@ fn judge_load(h: AddressFields, found: FoundHeader, offset: ImageOffset, n: usiz
 {
     let len = load::load_length(h, offset, n);
     let answer = check::check_load(h, offset, len, n);
-    kernel::judge_entry(answer, kernel_for(h, found, offset, len))
+    kernel::judge_entry(answer, &kernel_for(h, found, offset, len))
 }
 
 // The kernel of the header found, with `len` bytes to load from the offset.

@@ -116,13 +116,13 @@ fn entry_outside(kernel: &Kernel) -> bool
 
 // The kernel, if neither the checks so far nor the one on the entry refuses it.
 #[tactic(auto, unfolding(crate::specs::Checks::entry_checks, laws::specs::Checks::first_of))]
-pub fn judge_entry(answer: Answer<()>, kernel: Kernel) -> Answer<Kernel>
-    requires { kernel.count ≤ max_segments }
-    ensures { result ≡ with_entry answer kernel }
+pub fn judge_entry(answer: Answer<()>, kernel: &Kernel) -> Answer<Kernel>
+    requires { kernel.now.count ≤ max_segments }
+    ensures { result ≡ with_entry answer kernel.now }
 {
     answer?;
-    if entry_outside(&kernel) {
+    if entry_outside(kernel) {
         return Err(Refusal::EntryOutsideLoad);
     }
-    Ok(kernel)
+    Ok(*kernel)
 }

@@ -14,11 +14,10 @@ use Rattle.board.specs.Open.{is_open}
 use Rattle.board.proofs.OpenLaws.{OpenOn, open_is, open_below}
 use Rattle.placement.specs.declared.Spans.{Spans}
 use Rattle.placement.specs.declared.Items.{Items}
-use Rattle.placement.specs.declared.Placed.{Placed}
 use Rattle.placement.specs.InOrder.{ItemSuits, ItemStands, InOrder, up_to}
 use Rattle.placement.specs.Lowest.{lowest_place}
 use Rattle.placement.proofs.LowestLaws.{place_lowest, no_room}
-use Rattle.placement.specs.Order.{item_no, span_of, with_span, placed_from, place_items}
+use Rattle.placement.specs.Order.{Placed, item_no, span_of, with_span, placed_from, place_items}
 use Rattle.placement.proofs.OrderLaws.{with_count, with_length, with_keeps, with_new, suits_fewer}
 
 place_cases : (p : Option PhysAddr) → ((a : PhysAddr) × (p ≡ Some a)) ⊎ (p ≡ None)

@@ -57,10 +57,3 @@ pub struct Items {
     pub list: [Item; MAX_ITEMS],
     pub count: usize,
 }
-
-// The spans taken with those of the items placed, and how many items were placed: all, or those before the first with no room.
-#[derive(Clone, Copy)]
-pub struct Placed {
-    pub spans: Spans,
-    pub done: usize,
-}

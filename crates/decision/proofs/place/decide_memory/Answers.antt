@@ -1,8 +1,9 @@
 -- `decision::place::decide_memory` meets its contract: each return is one case of the last two stages.
 -- Assumes nothing.
-use Rattle.std.proofs.Common.{◌≡◌, arith, sym, ◌∙◌}
+use Rattle.std.proofs.Common.{◌≡◌, arith, sym, ◌∙◌, ap}
 use Rattle.std.proofs.lemmas.Result.{err_from_is_err_and}
 use Rattle.laws.proofs.CheckLaws.{told, ok_passed}
+use Rattle.placement.specs.Order.{Placed}
 use Rattle.decision.specs.Decided.{room_checks, placed_by}
 use Rattle.decision.specs.PlacedLaws.{items_ready, span_below}
 use Rattle.decision.specs.StageLaws.{placed_is, all_placed, decided_closed, decided_no_room, decided_load}
@@ -11,26 +12,29 @@ use Rattle.decision.proofs.place.decide_memory.Goals as goal
 pub returns-then-not-kernel_open : goal.returns-then-not-kernel_open
 returns-then-not-kernel_open c = decided_closed _ _ _ _ (told c.kernel_open.ensures c.if-not-kernel_open.true)
 
-pub place_items-placed-requires : goal.place_items-placed-requires
-place_items-placed-requires c = rw (c.extents.ensures, c.items-items.ensures) (items_ready _ _ _ _ c.requires)
+pub place_items-done-requires : goal.place_items-done-requires
+place_items-done-requires c = rw (c.extents-spans.ensures, c.items-items.ensures) (items_ready _ _ _ _ c.requires)
 
 pub returns-in_err-check_room : goal.returns-in_err-check_room
 returns-in_err-check_room c =
-    let p : c.place_items-placed.result ≡ placed_by c.args.board.now c.args.kernel c.args.layout.now c.args.size =
-    placed_is _ _ _ _ _ _ _ c.extents.ensures c.items-items.ensures c.place_items-placed.ensures in
+    let p : record { spans = c.place_items-done.new.spans; done = c.place_items-done.result } ≡ placed_by c.args.board.now c.args.kernel.now c.args.layout.now c.args.size =
+    placed_is _ _ _ _ _ _ _ c.extents-spans.ensures c.items-items.ensures c.place_items-done.ensures in
+    let d = ap (λ (r : Placed). r.done) p in
     let e = err_from_is_err_and c.from_residual.result c.from_residual.ensures.1 in
-    rw (e.1, e.2) (decided_no_room _ _ _ _ (told c.kernel_open.ensures c.if-not-kernel_open.false) _ (rw p at (sym c.check_room.ensures ∙ c.in_err-check_room.was)))
+    rw (e.1, e.2) (decided_no_room _ _ _ _ (told c.kernel_open.ensures c.if-not-kernel_open.false) _ (rw d at (sym c.check_room.ensures ∙ c.in_err-check_room.was)))
 
 pub plan_of-requires : goal.plan_of-requires
 plan_of-requires c =
-    let p : c.place_items-placed.result ≡ placed_by c.args.board.now c.args.kernel c.args.layout.now c.args.size =
-    placed_is _ _ _ _ _ _ _ c.extents.ensures c.items-items.ensures c.place_items-placed.ensures in
-    let n = all_placed _ _ (ok_passed (room_checks (placed_by c.args.board.now c.args.kernel c.args.layout.now c.args.size).done c.args.layout.now.count) _ _ (rw p at (sym c.check_room.ensures ∙ c.in_ok-check_room.was))).0 in
-    (c.requires.modules, omega (arith, c.requires.modules, c.requires.segments), rw p (span_below _ _ _ _ c.requires n c.args.layout.now.count (omega arith)))
+    let p : record { spans = c.place_items-done.new.spans; done = c.place_items-done.result } ≡ placed_by c.args.board.now c.args.kernel.now c.args.layout.now c.args.size =
+    placed_is _ _ _ _ _ _ _ c.extents-spans.ensures c.items-items.ensures c.place_items-done.ensures in
+    let d = ap (λ (r : Placed). r.done) p in
+    let n = all_placed _ _ (ok_passed (room_checks (placed_by c.args.board.now c.args.kernel.now c.args.layout.now c.args.size).done c.args.layout.now.count) _ _ (rw d at (sym c.check_room.ensures ∙ c.in_ok-check_room.was))).0 in
+    (c.requires.modules, omega (arith, c.requires.modules, c.requires.segments), rw (ap (λ (r : Placed). r.spans) p) (span_below _ _ _ _ c.requires n c.args.layout.now.count (omega arith)))
 
 pub returns : goal.returns
 returns c =
-    let p : c.place_items-placed.result ≡ placed_by c.args.board.now c.args.kernel c.args.layout.now c.args.size =
-    placed_is _ _ _ _ _ _ _ c.extents.ensures c.items-items.ensures c.place_items-placed.ensures in
-    let n = (ok_passed (room_checks (placed_by c.args.board.now c.args.kernel c.args.layout.now c.args.size).done c.args.layout.now.count) _ _ (rw p at (sym c.check_room.ensures ∙ c.in_ok-check_room.was))).0 in
-    rw (c.plan_of.ensures, p) (decided_load _ _ _ _ (told c.kernel_open.ensures c.if-not-kernel_open.false) n)
+    let p : record { spans = c.place_items-done.new.spans; done = c.place_items-done.result } ≡ placed_by c.args.board.now c.args.kernel.now c.args.layout.now c.args.size =
+    placed_is _ _ _ _ _ _ _ c.extents-spans.ensures c.items-items.ensures c.place_items-done.ensures in
+    let d = ap (λ (r : Placed). r.done) p in
+    let n = (ok_passed (room_checks (placed_by c.args.board.now c.args.kernel.now c.args.layout.now c.args.size).done c.args.layout.now.count) _ _ (rw d at (sym c.check_room.ensures ∙ c.in_ok-check_room.was))).0 in
+    rw (c.plan_of.ensures, ap (λ (r : Placed). r.spans) p) (decided_load _ _ _ _ (told c.kernel_open.ensures c.if-not-kernel_open.false) n)

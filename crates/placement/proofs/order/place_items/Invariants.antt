@@ -6,4 +6,4 @@ use Rattle.placement.specs.Order.{placed_from, place_items}
 use Rattle.placement.proofs.order.place_items.Given as goal
 
 abbrev pub invariant-loop-i : goal.invariant-loop-i
-invariant-loop-i l = (l.spans.count ≡ l.fn.taken.count + l.i) × (place_items (is_open l.board) l.fn.taken l.fn.items ≡ placed_from (is_open l.board) l.fn.items (l.fn.items.count - l.i) l.i l.spans)
+invariant-loop-i l = (l.spans.count ≡ l.fn.spans.count + l.i) × (place_items (is_open l.board) l.fn.spans l.fn.items ≡ placed_from (is_open l.board) l.fn.items (l.fn.items.count - l.i) l.i l.spans)
