@@ -95,15 +95,6 @@ impl Refusal {
     }
 }
 
-// `?` on a lent answer gives the refusal itself.
-impl From<&Refusal> for Refusal {
-    ghost from_gives = { λ lent r. r ≡ lent.now };
-
-    fn from(lent: &Refusal) -> Refusal {
-        *lent
-    }
-}
-
 // The number of an answer: 0, or that of the refusal.
 pub fn number<T>(answer: &Answer<T>) -> u32
     ensures { result ≡ number_of answer.now }

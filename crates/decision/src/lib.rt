@@ -33,19 +33,13 @@ pub fn decide<'a>(
 ) -> Answer<Plan>
     ensures { result ≡ decision_of (lent submission.now operator.now map.now first size) }
 {
-    let read = submission::parse(submission);
-    let layout = read.as_ref()?;
+    let layout = submission::parse(submission)?;
     command_line::check_operator(operator)?;
     let window = board::window::check_window(first, size)?;
-    let parsed = memory_map::parse(map);
-    let pairs = parsed.as_ref()?;
-    let board = Board {
-        map: *pairs,
-        window,
-    };
-    let judged = image::judge(submission::bytes_of(submission, layout.image));
-    let kernel = judged.as_ref()?;
+    let pairs = memory_map::parse(map)?;
+    let kernel = image::judge(submission::bytes_of(submission, layout.image))?;
     let line = command_line::in_force(operator, submission);
-    let length = block::size::block_length(layout, map.len(), line.len());
-    place::decide_memory(&board, kernel, layout, length as u64)
+    let length = block::size::block_length(&layout, map.len(), line.len());
+    let board = Board { map: pairs, window };
+    place::decide_memory(&board, &kernel, &layout, length as u64)
 }

@@ -20,14 +20,14 @@ pub fn extents(kernel: &Kernel) -> Spans
     requires { kernel.now.count ≤ max_segments }
     ensures { result ≡ extents_of kernel.now }
 {
-    let mut list = [Span::none(); placement::MAX_SPANS];
-    for (i, segment) in kernel.segments[..kernel.count].iter().enumerate() {
-        list[i] = segment.extent();
-    }
-    Spans {
-        list,
+    let mut spans = Spans {
+        list: [Span::none(); placement::MAX_SPANS],
         count: kernel.count,
+    };
+    for (i, segment) in kernel.segments[..kernel.count].iter().enumerate() {
+        spans.list[i] = segment.extent();
     }
+    spans
 }
 
 // The modules of a submission, on pages or not, and an information block of `size` bytes, as items.
@@ -40,12 +40,14 @@ pub fn items(layout: &Layout, pages: bool, size: u64) -> Items
         pages: false,
         ceiling: PhysAddr(0),
     };
-    let mut list = [none; placement::MAX_ITEMS];
-    let count = layout.count + 1;
-    for i in 0..count {
-        list[i] = item(layout, pages, size, i);
+    let mut items = Items {
+        list: [none; placement::MAX_ITEMS],
+        count: layout.count + 1,
+    };
+    for i in 0..items.count {
+        items.list[i] = item(layout, pages, size, i);
     }
-    Items { list, count }
+    items
 }
 
 // The item of an index: a module, or behind the last one the information block.

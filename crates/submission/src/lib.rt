@@ -52,8 +52,7 @@ pub struct Layout {
     pub end: usize,
 }
 
-// The parts of a submission, or 1 or 2. It is inlined since a call would take 700 bytes of stack more.
-#[inline(always)]
+// The parts of a submission, or 1 or 2.
 pub fn parse(s: &[u8]) -> Answer<Layout>
     ensures { result ≡ parsed_submission s.now }
 {

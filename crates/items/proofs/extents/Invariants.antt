@@ -7,4 +7,4 @@ use Rattle.placement.specs.Free.{max_spans}
 use Rattle.items.proofs.extents.Given as goal
 
 abbrev pub invariant-loop-i : goal.invariant-loop-i
-invariant-loop-i l = l.list ≡ table (extent_no l.fn.kernel) l.i max_spans no_span
+invariant-loop-i l = (l.spans.list ≡ table (extent_no l.fn.kernel) l.i max_spans no_span) × (l.spans.count ≡ l.fn.kernel.count)
