@@ -50,23 +50,6 @@ fn check_room(done: usize, n: usize) -> Answer<()>
     }
 }
 
-// The plan of n modules and the information block, placed behind the kernel's extents.
-#[tactic(auto, unfolding(crate::specs::Decided::plan_of))]
-fn plan_of(kernel: &Kernel, spans: &Spans, n: usize) -> Plan
-    requires { (n ≤ max_modules) × (kernel.now.count + n < max_spans) × ((span_no spans.now.list (kernel.now.count + n)).start.0 < 2 ^ 32) }
-    ensures { result ≡ plan_of kernel.now spans.now n }
-{
-    let at = kernel.count + n;
-    let block = spans.list[at];
-    Plan {
-        kernel: *kernel,
-        modules: items::module_spans(spans, kernel.count, n),
-        block,
-        eax: BOOT_MAGIC,
-        ebx: block.start.0 as u32,
-    }
-}
-
 // The plan for an accepted kernel with the modules of a submission and an information block of `size` bytes, or 15 to 17.
 pub(crate) fn decide_memory(board: &Board, kernel: &Kernel, layout: &Layout, size: u64) -> Answer<Plan>
     requires { Prepared board.now kernel.now layout.now size }
@@ -79,5 +62,13 @@ pub(crate) fn decide_memory(board: &Board, kernel: &Kernel, layout: &Layout, siz
     let mut spans = items::extents(kernel);
     let done = placement::order::place_items(board, &mut spans, &items);
     check_room(done, layout.count)?;
-    Ok(plan_of(kernel, &spans, layout.count))
+    let at = kernel.count + layout.count;
+    let block = spans.list[at];
+    Ok(Plan {
+        kernel: *kernel,
+        modules: items::module_spans(&spans, kernel.count, layout.count),
+        block,
+        eax: BOOT_MAGIC,
+        ebx: block.start.0 as u32,
+    })
 }

@@ -72,7 +72,9 @@ pub fn viertompu_load<'a>(
     answer::number(&decision)
 }
 
-// Writes all words of a decision: those of a load, or the number and the item of a refusal and zeros.
+// Writes all words of a decision: those of a load, or the number and the item of a refusal and zeros. It is not inlined: its copy
+// of the plan would stay on the stack of the decision.
+#[inline(never)]
 pub(crate) fn write_plan(plan: &mut [u32; WORDS], decision: &Answer<Plan>)
     ensures { plan.new ≡ plan_words decision.now }
 {

@@ -4,7 +4,7 @@ use Rattle.std.proofs.Common.{◌≡◌, arith, sym, ◌∙◌, ap}
 use Rattle.std.proofs.lemmas.Result.{err_from_is_err_and}
 use Rattle.laws.proofs.CheckLaws.{told, ok_passed}
 use Rattle.placement.specs.Order.{Placed}
-use Rattle.decision.specs.Decided.{room_checks, placed_by}
+use Rattle.decision.specs.Decided.{room_checks, placed_by, plan_of}
 use Rattle.decision.specs.PlacedLaws.{items_ready, span_below}
 use Rattle.decision.specs.StageLaws.{placed_is, all_placed, decided_closed, decided_no_room, decided_load}
 use Rattle.decision.proofs.place.decide_memory.Goals as goal
@@ -23,18 +23,20 @@ returns-in_err-check_room c =
     let e = err_from_is_err_and c.from_residual.result c.from_residual.ensures.1 in
     rw (e.1, e.2) (decided_no_room _ _ _ _ (told c.kernel_open.ensures c.if-not-kernel_open.false) _ (rw d at (sym c.check_room.ensures ∙ c.in_err-check_room.was)))
 
-pub plan_of-requires : goal.plan_of-requires
-plan_of-requires c =
+pub overflow_cast-result : goal.overflow_cast-result
+overflow_cast-result c =
     let p : record { spans = c.place_items-done.new.spans; done = c.place_items-done.result } ≡ placed_by c.args.board.now c.args.kernel.now c.args.layout.now c.args.size =
     placed_is _ _ _ _ _ _ _ c.extents-spans.ensures c.items-items.ensures c.place_items-done.ensures in
     let d = ap (λ (r : Placed). r.done) p in
     let n = all_placed _ _ (ok_passed (room_checks (placed_by c.args.board.now c.args.kernel.now c.args.layout.now c.args.size).done c.args.layout.now.count) _ _ (rw d at (sym c.check_room.ensures ∙ c.in_ok-check_room.was))).0 in
-    (c.requires.modules, omega (arith, c.requires.modules, c.requires.segments), rw (ap (λ (r : Placed). r.spans) p) (span_below _ _ _ _ c.requires n c.args.layout.now.count (omega arith)))
+    let b = span_below _ _ _ _ c.requires n c.args.layout.now.count (omega arith) in
+    rw (ap (λ (r : Placed). r.spans) p) (omega (arith, b))
 
 pub returns : goal.returns
+unfolding plan_of
 returns c =
     let p : record { spans = c.place_items-done.new.spans; done = c.place_items-done.result } ≡ placed_by c.args.board.now c.args.kernel.now c.args.layout.now c.args.size =
     placed_is _ _ _ _ _ _ _ c.extents-spans.ensures c.items-items.ensures c.place_items-done.ensures in
     let d = ap (λ (r : Placed). r.done) p in
     let n = (ok_passed (room_checks (placed_by c.args.board.now c.args.kernel.now c.args.layout.now c.args.size).done c.args.layout.now.count) _ _ (rw d at (sym c.check_room.ensures ∙ c.in_ok-check_room.was))).0 in
-    rw (c.plan_of.ensures, ap (λ (r : Placed). r.spans) p) (decided_load _ _ _ _ (told c.kernel_open.ensures c.if-not-kernel_open.false) n)
+    rw (c.module_spans.ensures, ap (λ (r : Placed). r.spans) p) (decided_load _ _ _ _ (told c.kernel_open.ensures c.if-not-kernel_open.false) n)
