@@ -6,13 +6,14 @@
 --     Stages, stages_known                                   what the stages read where none does
 --     decided_on                                             then the decision is the one on memory
 --     board_is, block_length_is, prepared_is, decision_is    the same as the calls hand it over
+--     memory_refused, memory_passed                          the decision where the checks on memory refuse, and where they pass
 -- Assumes nothing.
 use Rattle.std.specs.Bool.{⊤}
 use Rattle.std.specs.Result.{result_and}
 use Rattle.std.specs.Prelude.{Ok, Err, ◌≡◌, refl, true, false, ℕ, ◌+◌, ◌^◌, ◌≤◌, ◌<◌}
 use Rattle.std.proofs.Math.Path.{sym, ap}
-use Rattle.std.proofs.Common.{arith}
-use mathlib.Core.List.{List, ◌++◌, append_assoc}
+use Rattle.std.proofs.Common.{arith, ◌∙◌}
+use mathlib.Core.List.{List, [], ◌++◌, append_assoc, append-nil}
 use Rattle.std.proofs.Math.ListN.{length}
 use Rattle.laws.specs.Checks.{first_of, passes}
 use Rattle.address.specs.Address.{top}
@@ -45,7 +46,7 @@ use Rattle.block.specs.Block.{string_lengths, block_length}
 use Rattle.block.specs.WritingLaws.{block_bound}
 use Rattle.decision.specs.Lent.{Lent}
 use Rattle.decision.specs.Read.{layout_in, image_in, kernel_in, line_in, board_in, block_length_in}
-use Rattle.decision.specs.Decided.{memory_checks, memory_decision}
+use Rattle.decision.specs.Decided.{memory_checks, memory_plan, memory_decision}
 use Rattle.decision.specs.Decision.{lent_checks, checks, plan_in, decision_of}
 use Rattle.decision.specs.PlacedLaws.{Prepared}
 
@@ -206,6 +207,14 @@ module _ (x : Lent) (b : Board) (k : Kernel) (l : Layout) (n : ℕ) (be : b ≡ 
 
   pub decision_is : passes (lent_checks x) ≡ true → memory_decision b k l n ≡ decision_of x
   decision_is h = rw (be, ke, le, ne) (decided_on x h)
+
+  -- where the checks on memory refuse, and where they pass
+  pub memory_refused : passes (lent_checks x) ≡ true → (r : Refusal) → first_of (memory_checks b k l n) (tt {0}) ≡ Err r → Err r ≡ decision_of x
+  memory_refused h r e =
+      chain_first (memory_checks b k l n) [] r (tt {0}) (memory_plan b k l n) e ∙ rw append-nil (decision_is h)
+
+  pub memory_passed : passes (lent_checks x) ≡ true → (u : ⊤) → first_of (memory_checks b k l n) (tt {0}) ≡ Ok u → Ok (memory_plan b k l n) ≡ decision_of x
+  memory_passed h u e = sym (passes_on (memory_checks b k l n) (memory_plan b k l n) (ok_passed (memory_checks b k l n) _ _ e).0) ∙ decision_is h
 
 pub block_length_is : (x : Lent) (l : Layout) (line : List ℕ) (n : ℕ) → l ≡ layout_in x → line ≡ line_in x
     → n ≡ block_length (string_lengths l l.count) (length x.map) (length line)

@@ -5,10 +5,10 @@
 use Rattle.std.specs.Prelude.{Ok, Err, ◌≡◌, true, false, not, ℕ, ◌+◌, ◌≤◌, ltb}
 use Rattle.std.proofs.Math.Path.{refl}
 use Rattle.std.proofs.Common.{sym, ◌∙◌}
-use mathlib.Core.List.{[], append-nil}
+use mathlib.Core.List.{[]}
 use borrow.Author.Tests.{ltb-false, not-false}
 use Rattle.laws.specs.Checks.{first_of, passes}
-use Rattle.laws.proofs.CheckLaws.{check_passed, passes_on, chain_first}
+use Rattle.laws.proofs.CheckLaws.{check_passed, passes_on}
 use Rattle.answer.specs.declared.Refusal.{Refusal}
 use Rattle.answer.specs.declared.Refusal.TheVariants.{KernelNotOpen, NoRoomForModule, NoRoomForBlock}
 use Rattle.submission.specs.declared.Layout.{Layout}
@@ -19,7 +19,7 @@ use Rattle.placement.specs.declared.Items.{Items}
 use Rattle.placement.specs.declared.Spans.{Spans}
 use Rattle.placement.specs.Order.{Placed, place_items}
 use Rattle.items.specs.LoadItems.{extents_of, items_of}
-use Rattle.decision.specs.Decided.{kernel_open, kernel_checks, room_checks, placed_by, memory_plan, memory_decision}
+use Rattle.decision.specs.Decided.{kernel_open, kernel_checks, room_checks, placed_by, memory_checks}
 
 -- no check of the kernel's memory applies only where its extents are open
 pub kernel_passed : (b : Board) (k : Kernel) → passes (kernel_checks b k) ≡ true → kernel_open b k ≡ true
@@ -39,18 +39,20 @@ module _ (b : Board) (k : Kernel) (l : Layout) (size : ℕ) where
   unfolding placed_by
   placed_is r t q e f g = rw (g, e, f)
 
-  pub decided_closed : kernel_open b k ≡ false → Err KernelNotOpen ≡ memory_decision b k l size
-  unfolding kernel_checks first_of
-  decided_closed e = rw e refl
-
-  module _ (o : kernel_open b k ≡ true) where
-    -- the checks on the room are left
-    room_left : first_of (room_checks (placed_by b k l size).done l.count) (memory_plan b k l size) ≡ memory_decision b k l size
+  -- the last two stages, whatever their value
+  module _ {A : Type 0} (z : A) where
+    pub decided_closed : kernel_open b k ≡ false → Err KernelNotOpen ≡ first_of (memory_checks b k l size) z
     unfolding kernel_checks first_of
-    room_left = rw o refl
+    decided_closed e = rw e refl
 
-    pub decided_no_room : (r : Refusal) → first_of (room_checks (placed_by b k l size).done l.count) (tt {0}) ≡ Err r → Err r ≡ memory_decision b k l size
-    decided_no_room r h = chain_first (room_checks (placed_by b k l size).done l.count) [] r (tt {0}) (memory_plan b k l size) h ∙ rw append-nil room_left
+    module _ (o : kernel_open b k ≡ true) where
+      -- the checks on the room are left
+      room_left : first_of (room_checks (placed_by b k l size).done l.count) z ≡ first_of (memory_checks b k l size) z
+      unfolding kernel_checks first_of
+      room_left = rw o refl
 
-    pub decided_load : passes (room_checks (placed_by b k l size).done l.count) ≡ true → Ok (memory_plan b k l size) ≡ memory_decision b k l size
-    decided_load h = sym (passes_on (room_checks (placed_by b k l size).done l.count) (memory_plan b k l size) h) ∙ room_left
+      pub decided_no_room : (r : Refusal) → first_of (room_checks (placed_by b k l size).done l.count) z ≡ Err r → Err r ≡ first_of (memory_checks b k l size) z
+      decided_no_room r h = sym h ∙ room_left
+
+      pub decided_load : passes (room_checks (placed_by b k l size).done l.count) ≡ true → Ok z ≡ first_of (memory_checks b k l size) z
+      decided_load h = sym (passes_on (room_checks (placed_by b k l size).done l.count) z h) ∙ room_left

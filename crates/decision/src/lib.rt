@@ -38,8 +38,16 @@ pub fn decide<'a>(
     let window = board::window::check_window(first, size)?;
     let pairs = memory_map::parse(map)?;
     let kernel = image::judge(submission::bytes_of(submission, layout.image))?;
+    let mut plan = Plan {
+        kernel,
+        modules: [Span::none(); submission::MAX_MODULES],
+        block: Span::none(),
+        eax: 0,
+        ebx: 0,
+    };
     let line = command_line::in_force(operator, submission);
     let length = block::size::block_length(&layout, map.len(), line.len());
     let board = Board { map: pairs, window };
-    place::decide_memory(&board, &kernel, &layout, length as u64)
+    place::decide_memory(&board, &layout, length as u64, &mut plan)?;
+    Ok(plan)
 }

@@ -1,18 +1,15 @@
 // The checks on memory, 15 to 17, and the plan.
-ghost use Rattle.std.specs.Prelude.{◌≡◌, ◌+◌, ◌≤◌, ◌<◌, ◌^◌};
+ghost use Rattle.std.specs.Prelude.{◌≡◌, ◌+◌, ◌≤◌, OnOk};
 ghost use Rattle.laws.specs.Checks.{first_of};
 ghost use Rattle.submission.specs.Format.{max_modules};
-ghost use Rattle.address.specs.Span.{span_no};
-ghost use Rattle.placement.specs.Free.{max_spans};
 ghost use Rattle.kernel.specs.Kernel.{max_segments};
 ghost use Rattle.decision.specs.PlacedLaws.{Prepared};
-ghost use Rattle.decision.specs.Decided.{extent_open, kernel_open, room_checks, plan_of, memory_decision};
+ghost use Rattle.decision.specs.Decided.{extent_open, kernel_open, room_checks, memory_checks, memory_plan};
 
 use crate::Plan;
 use answer::{Answer, Refusal};
 use board::Board;
 use kernel::Kernel;
-use placement::Spans;
 use submission::Layout;
 
 // The number handed over in EAX.
@@ -50,25 +47,27 @@ fn check_room(done: usize, n: usize) -> Answer<()>
     }
 }
 
-// The plan for an accepted kernel with the modules of a submission and an information block of `size` bytes, or 15 to 17.
-pub(crate) fn decide_memory(board: &Board, kernel: &Kernel, layout: &Layout, size: u64) -> Answer<Plan>
-    requires { Prepared board.now kernel.now layout.now size }
-    ensures { result ≡ memory_decision board.now kernel.now layout.now size }
+// Checks 15 to 17 of a plan's kernel with the modules of a submission and an information block of `size` bytes, and then where the
+// modules and the block go. The plan is filled in where it stands, since each copy of one takes 800 bytes of stack.
+pub(crate) fn decide_memory(board: &Board, layout: &Layout, size: u64, plan: &mut Plan) -> Answer<()>
+    requires { Prepared board.now plan.old.kernel layout.now size }
+    ensures value { result ≡ first_of (memory_checks board.now plan.old.kernel layout.now size) tt }
+    ensures plan_after { OnOk result (plan.new ≡ memory_plan board.now plan.old.kernel layout.now size) }
 {
-    if !kernel_open(board, kernel) {
+    if !kernel_open(board, &plan.kernel) {
         return Err(Refusal::KernelNotOpen);
     }
-    let items = items::items(layout, kernel.pages, size);
-    let mut spans = items::extents(kernel);
-    let done = placement::order::place_items(board, &mut spans, &items);
+    let mut spans = items::extents(&plan.kernel);
+    let done = placement::order::place_items(
+        board,
+        &mut spans,
+        &items::items(layout, plan.kernel.pages, size),
+    );
     check_room(done, layout.count)?;
-    let at = kernel.count + layout.count;
-    let block = spans.list[at];
-    Ok(Plan {
-        kernel: *kernel,
-        modules: items::module_spans(&spans, kernel.count, layout.count),
-        block,
-        eax: BOOT_MAGIC,
-        ebx: block.start.0 as u32,
-    })
+    let count = plan.kernel.count;
+    plan.modules = items::module_spans(&spans, count, layout.count);
+    plan.block = spans.list[count + layout.count];
+    plan.eax = BOOT_MAGIC;
+    plan.ebx = plan.block.start.0 as u32;
+    Ok(())
 }

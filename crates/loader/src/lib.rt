@@ -22,7 +22,7 @@ pub fn load<'a>(
     ensures value { result ≡ decision_of (lent submission.now operator.now map.now first (length window.old)) }
     ensures window_after { window.new ≡ memory_after (lent submission.now operator.now map.now first (length window.old)) window.old }
 {
-    let decision = decision::decide(submission, operator, map, first, window.len());
-    write::write_decided(window, first, submission, operator, map, &decision);
-    decision
+    let plan = decision::decide(submission, operator, map, first, window.len())?;
+    write::write_load(window, first, submission, operator, map, &plan);
+    Ok(plan)
 }

@@ -11,38 +11,17 @@ ghost use Rattle.block.specs.Block.{block_of};
 ghost use Rattle.block.specs.Writing.{SpansLow, StringsIn, Room};
 ghost use Rattle.kernel.specs.Kernel.{max_segments};
 ghost use Rattle.decision.specs.Lent.{lent};
-ghost use Rattle.decision.specs.Decision.{decision_of};
-ghost use Rattle.loader.specs.Memory.{segment_write, module_write, contents_for, writes_of, memory_after};
+ghost use Rattle.loader.specs.Memory.{segment_write, module_write, contents_for, writes_of};
 ghost use Rattle.loader.specs.Ready.{PlanOfLoad};
 
 use address::{PhysAddr, Span};
 use block::write::Block;
-use answer::Answer;
 use decision::Plan;
 use kernel::{Kernel, Segment};
 use submission::{Layout, Part};
 
-// Writes what was decided: everything of a load, and nothing of a refusal. It is not inlined: its copy of the plan would stay on the
-// stack of the decision.
-#[inline(never)]
-pub(crate) fn write_decided<'a>(
-    window: &mut [u8],
-    first: u32,
-    submission: &'a [u8],
-    operator: &'a [u8],
-    map: &[u8],
-    decision: &Answer<Plan>,
-)
-    requires { decision.now ≡ decision_of (lent submission.now operator.now map.now first (length window.old)) }
-    ensures { window.new ≡ memory_after (lent submission.now operator.now map.now first (length window.old)) window.old }
-{
-    if let Ok(plan) = decision {
-        write_load(window, first, submission, operator, map, plan);
-    }
-}
-
 // Writes everything of a load: the kernel, the modules, and the information block.
-fn write_load<'a>(
+pub(crate) fn write_load<'a>(
     window: &mut [u8],
     first: u32,
     submission: &'a [u8],

@@ -1,9 +1,9 @@
 -- `decision::decide` meets its contract: a refusal of the checks before 15, or the decision on memory.
 -- Assumes nothing.
 use Rattle.std.proofs.Common.{arith, sym, ◌∙◌}
-use Rattle.std.proofs.lemmas.Result.{err_from_is_err_and}
+use Rattle.std.proofs.lemmas.Result.{err_from_is_err_and, IfOk-at_ok}
 use Rattle.decision.specs.Lent.{Lent, lent}
-use Rattle.decision.specs.DecisionLaws.{submission_refused, operator_refused, window_refused, map_refused, image_refused, lent_passed, prepared, block_small, stages_known, board_is, block_length_is, prepared_is, decision_is}
+use Rattle.decision.specs.DecisionLaws.{submission_refused, operator_refused, window_refused, map_refused, image_refused, lent_passed, prepared, block_small, stages_known, board_is, block_length_is, prepared_is, memory_refused, memory_passed}
 use Rattle.decision.proofs.decide.Goals as goal
 
 pub returns-in_err-layout : goal.returns-in_err-layout
@@ -45,9 +45,18 @@ decide_memory-requires c =
     let n = block_length_is x _ _ _ a.layout c.in_force-line.ensures c.block_length-length.ensures in
     prepared_is x _ _ _ _ (board_is x _ _ a.map a.window) a.kernel a.layout n (lent_passed x a.passed)
 
+pub returns-in_err-decide_memory : goal.returns-in_err-decide_memory
+returns-in_err-decide_memory c =
+    let x : Lent = lent c.args.submission.now c.args.operator.now c.args.map.now c.args.first c.args.size in
+    let a = stages_known (lent c.args.submission.now c.args.operator.now c.args.map.now c.args.first c.args.size) _ (sym c.parse.ensures ∙ c.in_ok-layout.was) _ (sym c.check_operator.ensures ∙ c.in_ok-check_operator.was) _ (sym c.check_window.ensures ∙ c.in_ok-window.was) _ (sym c.parse-2.ensures ∙ c.in_ok-pairs.was) _ c.bytes_of.ensures _ (sym c.judge.ensures ∙ c.in_ok-kernel.was) in
+    let n = block_length_is x _ _ _ a.layout c.in_force-line.ensures c.block_length-length.ensures in
+    let p = err_from_is_err_and c.from_residual-in_err-decide_memory.result c.from_residual-in_err-decide_memory.ensures.1 in
+    rw (p.1, p.2) (memory_refused x _ _ _ _ (board_is x _ _ a.map a.window) a.kernel a.layout n a.passed _ (sym c.decide_memory.ensures.value ∙ c.in_err-decide_memory.was))
+
 pub returns : goal.returns
 returns c =
     let x : Lent = lent c.args.submission.now c.args.operator.now c.args.map.now c.args.first c.args.size in
     let a = stages_known (lent c.args.submission.now c.args.operator.now c.args.map.now c.args.first c.args.size) _ (sym c.parse.ensures ∙ c.in_ok-layout.was) _ (sym c.check_operator.ensures ∙ c.in_ok-check_operator.was) _ (sym c.check_window.ensures ∙ c.in_ok-window.was) _ (sym c.parse-2.ensures ∙ c.in_ok-pairs.was) _ c.bytes_of.ensures _ (sym c.judge.ensures ∙ c.in_ok-kernel.was) in
     let n = block_length_is x _ _ _ a.layout c.in_force-line.ensures c.block_length-length.ensures in
-    c.decide_memory.ensures ∙ decision_is x _ _ _ _ (board_is x _ _ a.map a.window) a.kernel a.layout n a.passed
+    let q = IfOk-at_ok (λ _. _) c.in_ok-decide_memory.was c.decide_memory.ensures.plan_after in
+    rw q (memory_passed x _ _ _ _ (board_is x _ _ a.map a.window) a.kernel a.layout n a.passed _ (sym c.decide_memory.ensures.value ∙ c.in_ok-decide_memory.was))

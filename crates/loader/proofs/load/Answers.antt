@@ -1,0 +1,14 @@
+-- `loader::load` meets its contract: the decision, and the writes of a load or none.
+-- Assumes nothing.
+use Rattle.std.proofs.Common.{sym, ◌∙◌}
+use Rattle.loader.specs.WriteLaws.{decision_loaded, memory_loaded, memory_refused}
+use Rattle.loader.proofs.load.Goals as goal
+
+pub write_load-requires : goal.write_load-requires
+write_load-requires c = decision_loaded _ _ (sym c.decide.ensures ∙ c.in_ok-plan.was)
+
+pub returns-in_err-plan-clause-window_after : goal.returns-in_err-plan-clause-window_after
+returns-in_err-plan-clause-window_after c = memory_refused _ _ (sym c.decide.ensures ∙ c.in_err-plan.was) _
+
+pub returns-clause-window_after : goal.returns-clause-window_after
+returns-clause-window_after c = memory_loaded _ _ (sym c.decide.ensures ∙ c.in_ok-plan.was) _ _ c.write_load.ensures
