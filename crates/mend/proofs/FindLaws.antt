@@ -4,13 +4,14 @@
 --     first_below      none passed before the one found
 --     lowest_found     the lowest magic is found
 -- Assumes nothing.
-use Rattle.std.proofs.Common.{◌≡◌, ℕ, ◌+◌, ◌-◌, ◌*◌, ◌<◌, ◌≤◌, min, Bool, true, false, List, length, sym, refl, ap, ◌∙◌, ⊎_elim, arith, eqb-true, ◌==◌}
+use Rattle.std.proofs.Common.{◌≡◌, ℕ, ◌+◌, ◌-◌, ◌*◌, ◌<◌, ◌≤◌, min, Bool, true, false, List, length, sym, ap, ◌∙◌, ⊎_elim, arith, eqb-true, ◌==◌}
 use Rattle.std.specs.Prelude.{Option, Some, None, MatchOption}
 use Rattle.std.specs.Bool.{IsTrue}
 use Rattle.std.specs.Option.{option_map}
 use Rattle.std.specs.Fn.{CalledAt}
 use Rattle.std.specs.Iterator.Runs.{Run, AllItems, AllItemsBelow, IsStepByRun, ItemsCountUp, CallKeepsClosure, NoItemPasses, EndsAtFirstPassing}
 use Rattle.std.proofs.lemmas.Option.{same_Some}
+use Rattle.std.proofs.lemmas.Iterator.Adapters.{option_map_id}
 use denote.Ref.{Bor}
 use denote.Param.Members.{Mut}
 use Rattle.laws.proofs.TestLaws.{lt_or_le}
@@ -22,16 +23,12 @@ use Rattle.header.proofs.RoomLaws.{past_end, past_limit}
 use Rattle.mend.specs.Mend.{lowest_magic}
 use Rattle.mend.proofs.MagicLaws.{magic_is, no_magic, without_room, magic_found, magic_none}
 
-same_option : (o : Option ℕ) → o ≡ option_map (λ y. y) o
-same_option None = refl
-same_option (Some x) = refl
-
 -- the run p takes every fourth item of q, which counts up from 0 to n
 module _ {S T : Type 0} {steps : S → Option ℕ → S → Type 0} {source : T → Option ℕ → T → Type 0} (p : Run steps) (q : Run source) (n : ℕ) (walk : IsStepByRun p q 4) (up : ItemsCountUp q 0 n) where
   item : (k : ℕ) → k < p.len → p.at k ≡ Some (4 * k)
   item k l =
       let e : 0 + k * 4 ≡ 4 * k = omega arith in
-      walk.4 k ∙ (same_option (q.at (k * 4)) ∙ (up.3 (k * 4) (omega (arith, walk.3)) ∙ ap Some e))
+      walk.4 k ∙ (rw option_map_id at (up.3 (k * 4) (omega (arith, walk.3))) ∙ ap Some e)
 
   none_below : (No : ℕ → Type 0) → p.whole ≡ true → AllItems p No → (k : ℕ) → 4 * k < n → No (4 * k)
   none_below No w all k l = rw (item k (omega (arith, walk.2, up.1 (walk.0 ∙ w)))) at (all k)
@@ -59,5 +56,4 @@ module _ {S T : Type 0} {steps : S → Option ℕ → S → Type 0} {source : T 
         let e : x ≡ 4 * i = same_Some _ _ (sym h.2 ∙ item i (omega (arith, h.1))) in
         let t = rw e at (h.3 keeps).0 in
         let m : MagicAt image (4 * i) = record { multiple = omega arith; whole = omega (arith, walk.3, up.0, h.1); early = omega (arith, walk.3, up.0, h.1); marked = eqb-true _ _ (sym (tells _ _ t)) } in
-        ap (λ (o : ℕ). Some (record { 0 = o })) e
-        ∙ magic_found image i ((magic_is image (4 * i) (omega arith)).1 m) (λ j l. no_magic image (4 * j) (sym (tells _ _ (first_below (λ y. CalledAt g f y false f) i (omega (arith, h.1)) (h.3 keeps).1 j l))))
+        rw e (magic_found image i ((magic_is image (4 * i) (omega arith)).1 m) (λ j l. no_magic image (4 * j) (sym (tells _ _ (first_below (λ y. CalledAt g f y false f) i (omega (arith, h.1)) (h.3 keeps).1 j l)))))

@@ -1,11 +1,11 @@
 -- Laws of mending.
---     magic_early                       the lowest magic lies in the searched part
---     with_header, at_magic, nowhere    the three answers
---     after_is                          the image afterwards, by the answer
---     right_checksum_lem                the checksum is the one with which the sum is 0
---     mended_at                         what is promised where a checksum is mended
+--     magic_early           the lowest magic lies in the searched part
+--     with_header           an image with a header is left alone
+--     after_is              the image afterwards, by the answer
+--     right_checksum_lem    the checksum is the one with which the sum is 0
+--     mended_at             what is promised where a checksum is mended
 -- Assumes nothing.
-use Rattle.std.specs.Prelude.{◌≡◌, ℕ, ◌+◌, ◌^◌, ◌<◌, ◌≤◌, List, [], slice_index, Some, None}
+use Rattle.std.specs.Prelude.{◌≡◌, ℕ, ◌+◌, ◌^◌, ◌<◌, ◌≤◌, List, [], slice_index, Some, None, Ok}
 use Rattle.std.proofs.Math.Path.{refl, ap}
 use Rattle.std.proofs.Common.{sym, ◌∙◌, subst, append-nil, arith}
 use Rattle.buffer.specs.Patched.{patched}
@@ -17,9 +17,7 @@ use Rattle.address.specs.declared.ImageOffset.{ImageOffset}
 use Rattle.header.specs.Header.{header}
 use Rattle.header.specs.HeaderAt.{MagicAt, HeaderAt}
 use Rattle.header.proofs.SearchLaws.{Answers}
-use Rattle.mend.specs.declared.Mending.{Mending}
-use Rattle.mend.specs.declared.Mending.TheVariants.{HeaderFound, Mended, NoMagic}
-use Rattle.mend.specs.Mend.{lowest_magic, right_checksum, change_at, mending_of, image_with, image_after}
+use Rattle.mend.specs.Mend.{Mending, lowest_magic, right_checksum, change_at, mending_of, image_with, image_after}
 use Rattle.mend.proofs.MagicLaws.{magic_kept, lowest_magic_lem}
 use Rattle.mend.specs.Promises.{RightChecksum, MendedAt}
 
@@ -27,18 +25,9 @@ module _ (image : List ℕ) where
   pub magic_early : (o : ImageOffset) → lowest_magic image ≡ Some o → o.0 + 12 ≤ 8192
   magic_early o e = (subst (Answers (MagicAt image)) e (lowest_magic_lem image)).0.early
 
-  pub with_header : (o : ImageOffset) → header image ≡ Some o → mending_of image ≡ HeaderFound
+  pub with_header : (o : ImageOffset) → header image ≡ Some o → mending_of image ≡ Ok None
   unfolding mending_of
   with_header o e = rw e refl
-
-  module _ (headless : header image ≡ None) where
-    pub at_magic : (o : ImageOffset) → lowest_magic image ≡ Some o → mending_of image ≡ Mended (change_at image o)
-    unfolding mending_of
-    at_magic o e = rw (headless, e) refl
-
-    pub nowhere : lowest_magic image ≡ None → mending_of image ≡ NoMagic
-    unfolding mending_of
-    nowhere e = rw (headless, e) refl
 
   pub after_is : (r : Mending) → mending_of image ≡ r → image_after image ≡ image_with image r
   unfolding image_after

@@ -5,7 +5,7 @@
 --     second_found, second_kept    a second run finds a header, where the first did not refuse, and changes nothing
 --     mend_part, image_part_lem    the searched part alone gives the same answer and gets the same bytes
 -- Assumes nothing.
-use Rattle.std.specs.Prelude.{◌≡◌, ℕ, ◌+◌, ◌≤◌, List, take, ◌≢◌, refl, Option, Some, None}
+use Rattle.std.specs.Prelude.{◌≡◌, ℕ, ◌+◌, ◌≤◌, List, take, ◌≢◌, refl, Option, Some, None, Ok, Err}
 use Rattle.std.proofs.Common.{sym, ap, ◌∙◌, subst, arith}
 use Rattle.buffer.specs.PatchedLaws.{take-patched}
 use Rattle.number.specs.Number.{number_bytes}
@@ -16,24 +16,10 @@ use Rattle.header.proofs.SearchLaws.{Answers}
 use Rattle.header.proofs.HeaderLaws.{word_take, answers, lowest_header}
 use Rattle.header.proofs.FalseHeaderLaws.{header_same}
 use Rattle.mend.specs.declared.Change.{Change}
-use Rattle.mend.specs.declared.Mending.{Mending}
-use Rattle.mend.specs.declared.Mending.TheVariants.{HeaderFound, Mended, NoMagic}
-use Rattle.mend.specs.Mend.{lowest_magic, change_at, mending_by, mending_of, image_with, image_after}
+use Rattle.mend.specs.Mend.{Mending, lowest_magic, change_at, mending_by, mending_of, image_with, image_after}
 use Rattle.mend.proofs.MagicLaws.{lowest_magic_lem, magic_part}
 use Rattle.mend.proofs.MendLaws.{with_header, after_is, mended_at}
 use Rattle.mend.specs.Promises.{MendedAt, MendPromised}
-
--- which of the three an answer is
-abbrev tag : Mending → ℕ
-tag HeaderFound = 0
-tag (Mended c) = 1
-tag NoMagic = 2
-
--- the change that an answer tells of, or another
-abbrev change_in : Change → Mending → Change
-change_in d HeaderFound = d
-change_in d (Mended c) = c
-change_in d NoMagic = d
 
 module _ (image : List ℕ) where
   promised_by : (r s : Option ImageOffset) → Answers (HeaderAt image) r → Answers (MagicAt image) s
@@ -41,23 +27,23 @@ module _ (image : List ℕ) where
   promised_by (Some o) s h g =
       record {
         found = (λ e. (o.0, h.0), λ k. refl);
-        none = (λ e. absurd (omega (arith, ap tag e)), λ n. absurd (n o.0 h.0.magic));
-        mended = λ c e. absurd (omega (arith, ap tag e));
+        none = (λ e. absurd cc, λ n. absurd (n o.0 h.0.magic));
+        mended = λ c e. absurd cc;
         left = λ n. refl;
       }
   promised_by None (Some o) h g =
-      let v = image_with image (Mended (change_at image o)) in
+      let v = image_with image (Ok (Some (change_at image o))) in
       record {
-        found = (λ e. absurd (omega (arith, ap tag e)), λ k. absurd (h k.0 k.1));
-        none = (λ e. absurd (omega (arith, ap tag e)), λ n. absurd (n o.0 g.0));
-        mended = λ c e. subst (λ (d : Change). MendedAt image d v) (ap (change_in c) e) (mended_at image o h g);
+        found = (λ e. absurd cc, λ k. absurd (h k.0 k.1));
+        none = (λ e. absurd cc, λ n. absurd (n o.0 g.0));
+        mended = λ c e. let q : change_at image o ≡ c = cc in subst (λ (d : Change). MendedAt image d v) q (mended_at image o h g);
         left = λ n. absurd (n (change_at image o) refl);
       }
   promised_by None None h g =
       record {
-        found = (λ e. absurd (omega (arith, ap tag e)), λ k. absurd (h k.0 k.1));
+        found = (λ e. absurd cc, λ k. absurd (h k.0 k.1));
         none = (λ e. g, λ n. refl);
-        mended = λ c e. absurd (omega (arith, ap tag e));
+        mended = λ c e. absurd cc;
         left = λ n. refl;
       }
 
@@ -65,28 +51,28 @@ module _ (image : List ℕ) where
   unfolding mending_of image_after
   mend_promised = promised_by (header image) (lowest_magic image) (answers image) (lowest_magic_lem image)
 
-  pub change_early : (c : Change) → mending_of image ≡ Mended c → c.offset.0 + 12 ≤ 8192
+  pub change_early : (c : Change) → mending_of image ≡ Ok (Some c) → c.offset.0 + 12 ≤ 8192
   change_early c e = (mend_promised.mended c e).magic.early
 
-  pub mended_header : (c : Change) → mending_of image ≡ Mended c → header (image_after image) ≡ Some c.offset
+  pub mended_header : (c : Change) → mending_of image ≡ Ok (Some c) → header (image_after image) ≡ Some c.offset
   mended_header c e =
       let m = mend_promised.mended c e in
       lowest_header (image_after image) c.offset.0 m.header (λ o l h. m.first o l h.magic)
 
 -- a second run
 module _ (image : List ℕ) where
-  found_by : (r : Mending) → mending_of image ≡ r → (r ≢ NoMagic) → mending_of (image_after image) ≡ HeaderFound
-  found_by HeaderFound e n = ap mending_of (after_is image HeaderFound e) ∙ e
-  found_by (Mended c) e n = with_header (image_after image) c.offset (mended_header image c e)
-  found_by NoMagic e n = absurd (n refl)
+  found_by : (r : Mending) → mending_of image ≡ r → (r ≢ Err (record {})) → mending_of (image_after image) ≡ Ok None
+  found_by (Ok None) e n = ap mending_of (after_is image (Ok None) e) ∙ e
+  found_by (Ok (Some c)) e n = with_header (image_after image) c.offset (mended_header image c e)
+  found_by (Err f) e n = absurd (n refl)
 
-  pub second_found : (mending_of image ≢ NoMagic) → mending_of (image_after image) ≡ HeaderFound
+  pub second_found : (mending_of image ≢ Err (record {})) → mending_of (image_after image) ≡ Ok None
   second_found = found_by (mending_of image) refl
 
   kept_by : (r : Mending) → mending_of image ≡ r → image_after (image_after image) ≡ image_after image
-  kept_by HeaderFound e = ap image_after (after_is image HeaderFound e)
-  kept_by (Mended c) e = after_is (image_after image) HeaderFound (found_by (Mended c) e (λ f. omega (arith, ap tag f)))
-  kept_by NoMagic e = ap image_after (after_is image NoMagic e)
+  kept_by (Ok None) e = ap image_after (after_is image (Ok None) e)
+  kept_by (Ok (Some c)) e = after_is (image_after image) (Ok None) (found_by (Ok (Some c)) e (λ f. cc))
+  kept_by (Err f) e = ap image_after (after_is image (Err f) e)
 
   pub second_kept : image_after (image_after image) ≡ image_after image
   second_kept = kept_by (mending_of image) refl
@@ -108,9 +94,9 @@ module _ (image : List ℕ) where
   mend_part = rw (header_same image, magic_part image) (same_by (header image) (lowest_magic image) (lowest_magic_lem image))
 
   with_part : (r : Mending) → image_with part r ≡ take search_limit (image_with image r)
-  with_part HeaderFound = refl
-  with_part (Mended c) = sym (take-patched search_limit image (c.offset.0 + 8) (number_bytes 4 c.new))
-  with_part NoMagic = refl
+  with_part (Ok None) = refl
+  with_part (Ok (Some c)) = sym (take-patched search_limit image (c.offset.0 + 8) (number_bytes 4 c.new))
+  with_part (Err e) = refl
 
   pub image_part_lem : image_after part ≡ take search_limit (image_after image)
   unfolding image_after

@@ -5,12 +5,11 @@
 -- The proof is in PromisesLaws; so is that the header search on v finds the offset mended, and that a second run finds a header
 -- and changes nothing.
 -- Assumes nothing.
-use Rattle.std.specs.Prelude.{◌≡◌, ℕ, ◌+◌, ◌%◌, ◌^◌, ◌<◌, ◌≤◌, ◌↔◌, List, length, ◌≢◌, slice_index}
+use Rattle.std.specs.Prelude.{◌≡◌, ℕ, ◌+◌, ◌%◌, ◌^◌, ◌<◌, ◌≤◌, ◌↔◌, List, length, ◌≢◌, slice_index, Some, None, Ok, Err}
 use Rattle.number.specs.Number.{number_at}
 use Rattle.header.specs.HeaderAt.{MagicAt, HeaderAt}
 use Rattle.mend.specs.declared.Change.{Change}
-use Rattle.mend.specs.declared.Mending.{Mending}
-use Rattle.mend.specs.declared.Mending.TheVariants.{HeaderFound, Mended, NoMagic}
+use Rattle.mend.specs.Mend.{Mending}
 
 -- k is the one number below 2^32 with which magic and flags give 0 modulo 2^32
 pub record RightChecksum (flags k : ℕ) : Type 0 where
@@ -38,8 +37,8 @@ pub record MendedAt (image : List ℕ) (c : Change) (v : List ℕ) : Type 0 wher
 -- the answer r and the image v afterwards
 pub record MendPromised (image : List ℕ) (r : Mending) (v : List ℕ) : Type 0 where
   -- a header is found exactly where there is one, and a mend is refused exactly where the magic stands nowhere
-  pub found : (r ≡ HeaderFound) ↔ ((o : ℕ) × HeaderAt image o)
-  pub none : (r ≡ NoMagic) ↔ ((o : ℕ) → MagicAt image o → ⊥)
-  pub mended : (c : Change) → r ≡ Mended c → MendedAt image c v
+  pub found : (r ≡ Ok None) ↔ ((o : ℕ) × HeaderAt image o)
+  pub none : (r ≡ Err (record {})) ↔ ((o : ℕ) → MagicAt image o → ⊥)
+  pub mended : (c : Change) → r ≡ Ok (Some c) → MendedAt image c v
   -- nothing else changes the image
-  pub left : ((c : Change) → r ≢ Mended c) → v ≡ image
+  pub left : ((c : Change) → r ≢ Ok (Some c)) → v ≡ image

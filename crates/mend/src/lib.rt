@@ -16,16 +16,17 @@ pub struct Change {
     pub new: u32,
 }
 
-// What a mend answers.
-#[derive(Clone, Copy)]
-pub enum Mending {
-    // the image has a header, and nothing changes
-    HeaderFound,
-    // the checksum at the lowest magic changes
-    Mended(Change),
-    // 26: the image has neither a header nor a false header
-    NoMagic,
+// 26: the image has neither a header nor a false header
+#[derive(Clone, Copy, PartialEq, Eq)]
+pub struct NoMagic;
+
+impl NoMagic {
+    // The number of the refusal.
+    pub const NUMBER: u32 = 26;
 }
+
+// What a mend answers: the change at the lowest magic, or none where the image has a header.
+pub type Mending = Result<Option<Change>, NoMagic>;
 
 // Mends the checksum at the lowest magic of an image without a header, and changes no other byte.
 #[tactic(auto, using(crate::proofs::PromisesLaws::change_early), unfolding(crate::specs::Mend::image_after))]
@@ -34,34 +35,32 @@ pub fn mend(image: &mut [u8]) -> Mending
     ensures image_after { image.new ≡ image_after image.old }
 {
     let mending = decide(image);
-    if let Mending::Mended(change) = mending {
+    if let Ok(Some(change)) = mending {
         number::write_u32(image, change.offset.0 + CHECKSUM, change.new);
     }
     mending
 }
 
-// The number of an answer: 26 where the magic stands nowhere.
-pub fn number(mending: Mending) -> u32
-    ensures { result ≡ mend_number mending }
+// The number of an answer: 0, or that of the refusal.
+pub fn number(mending: &Mending) -> u32
+    ensures { result ≡ mend_number mending.now }
 {
     match mending {
-        Mending::HeaderFound | Mending::Mended(_) => 0,
-        Mending::NoMagic => 26,
+        Ok(_) => 0,
+        Err(NoMagic) => NoMagic::NUMBER,
     }
 }
 
 // What is to be changed in an image, if anything is.
-#[tactic(auto, using(crate::proofs::MendLaws::magic_early, crate::proofs::MendLaws::with_header, crate::proofs::MendLaws::at_magic, crate::proofs::MendLaws::nowhere))]
+#[tactic(auto, using(crate::proofs::MendLaws::magic_early), unfolding(crate::specs::Mend::mending_of))]
 fn decide(image: &[u8]) -> Mending
     ensures { result ≡ mending_of image.now }
 {
     if header::find_header(image).header.is_some() {
-        return Mending::HeaderFound;
+        return Ok(None);
     }
-    match lowest_magic(image) {
-        Some(offset) => Mending::Mended(change_at(image, offset)),
-        None => Mending::NoMagic,
-    }
+    let offset = lowest_magic(image).ok_or(NoMagic)?;
+    Ok(Some(change_at(image, offset)))
 }
 
 // The lowest multiple of 4 at which the magic stands, with room for 12 bytes inside the searched part.

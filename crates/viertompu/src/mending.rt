@@ -24,24 +24,20 @@ pub fn viertompu_mend(image: &mut [u8], report: &mut [u32; MEND_WORDS]) -> u32
     ensures image_after { image.new ≡ image_after image.old }
 {
     let mending = mend::mend(image);
-    write_mend(report, mending);
-    mend::number(mending)
+    write_mend(report, &mending);
+    mend::number(&mending)
 }
 
 // Writes the words of an answer: zeros, where nothing was mended.
 #[tactic(auto, unfolding(crate::specs::MendWords::mend_words))]
-fn write_mend(report: &mut [u32; MEND_WORDS], mending: Mending)
-    ensures { report.new ≡ mend_words mending }
+fn write_mend(report: &mut [u32; MEND_WORDS], mending: &Mending)
+    ensures { report.new ≡ mend_words mending.now }
 {
     *report = [0; MEND_WORDS];
-    match mending {
-        Mending::HeaderFound => {}
-        Mending::Mended(change) => {
-            report[MENDED] = 1;
-            report[MENDED_HEADER] = crate::word(change.offset.0 as u64);
-            report[OLD_CHECKSUM] = change.old;
-            report[NEW_CHECKSUM] = change.new;
-        }
-        Mending::NoMagic => {}
+    if let Ok(Some(change)) = mending {
+        report[MENDED] = 1;
+        report[MENDED_HEADER] = crate::word(change.offset.0 as u64);
+        report[OLD_CHECKSUM] = change.old;
+        report[NEW_CHECKSUM] = change.new;
     }
 }
