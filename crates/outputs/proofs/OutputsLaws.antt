@@ -2,13 +2,14 @@
 --     joined_at, joined_only    a number in one of many rows; rows of nothing past the last
 --     Low                       every word of a list is below 2^32
 --     length_words, segment_word_lem, module_word_lem, behind_word, last_word
---                                                           which word of a decision stands where
---     GoodPlan, good_plan               what is known of the plan of a load
+--                                                           which word of a load stands where
+--     GoodPlan, good_plan, good         what is known of the plan of a load
 --     words_of, low_of, lines_of_lem    its words and its lines
---     refused, item_low                 the words of a refusal, and how large its item is
+--     item_low, refusal_low             how large an item is, and the words of a refusal
+--     load_outputs, refusal_outputs     a load, and a refusal
 --     outputs                           for every submission, operator's line, memory map and window
 -- Assumes nothing.
-use Rattle.std.specs.Prelude.{◌≡◌, refl, true, false, List, [], ◌∷◌, ◌++◌, ℕ, zero, suc, ◌+◌, ◌-◌, ◌*◌, ◌^◌, ◌≤◌, ◌<◌, eqb, length}
+use Rattle.std.specs.Prelude.{◌≡◌, refl, true, false, Ok, Err, List, [], ◌∷◌, ◌++◌, ℕ, zero, suc, ◌+◌, ◌-◌, ◌*◌, ◌^◌, ◌≤◌, ◌<◌, eqb, length}
 use Rattle.std.proofs.Math.Path.{sym, ap}
 use Rattle.std.proofs.Common.{◌∙◌, append-nil, eq-or-lt_of_le, mul-suc, mul-le-mul_left, eqb-true}
 use Rattle.std.proofs.Math.Logic.{⊎_elim}
@@ -22,27 +23,27 @@ use Rattle.buffer.specs.Patched.{zeros}
 use Rattle.address.specs.declared.Span.{Span}
 use Rattle.address.specs.Span.{span_no}
 use Rattle.answer.specs.declared.Refusal.{Refusal}
-use Rattle.answer.specs.Answer.{number_of, item_of}
-use Rattle.answer.specs.AnswerLaws.{item_none, number_most}
+use Rattle.answer.specs.Answer.{refusal_number, refusal_item, number_of, item_of}
+use Rattle.answer.specs.AnswerLaws.{number_least, number_most, item_none}
 use Rattle.submission.specs.Layout.{layout_of}
 use Rattle.submission.specs.Format.{max_modules, module_count}
 use Rattle.header.proofs.FalseHeaderLaws.{false_most}
 use Rattle.kernel.specs.Kernel.{max_segments, segment_no}
 use Rattle.image.specs.JudgedLaws.{good_kernel}
 use Rattle.decision.specs.declared.Plan.{Plan}
-use Rattle.decision.specs.declared.Decision.{Decision}
 use Rattle.decision.specs.Lent.{Lent}
 use Rattle.decision.specs.Read.{layout_in, image_in, kernel_in}
 use Rattle.decision.specs.Decided.{plan_of}
-use Rattle.decision.specs.Plan.{no_plan}
+use Rattle.decision.specs.Plan.{Decision, plan_given}
 use Rattle.decision.specs.Decision.{plan_in, decision_of}
 use Rattle.loader.specs.LoadLaws.{Loads, loads, span_inside, kernel_span, module_span, block_span, modules_past}
 use Rattle.loader.specs.WriteLaws.{spans_low}
-use Rattle.theorems.proofs.AnsweredLaws.{number_load, load_plan, refusal_plan, room_item, header_item}
+use Rattle.theorems.proofs.AnsweredLaws.{number_load, load_plan, room_item, header_item}
 use Rattle.viertompu.specs.Joined.{joined}
 use Rattle.viertompu.specs.JoinedLaws.{length_joined}
 use Rattle.viertompu.specs.Words.{head_words, segment_words, module_words, segments_words, modules_words, plan_words}
-use Rattle.report.specs.Report.{segment_line, module_line, refusal_text, report_of}
+use Rattle.viertompu.proofs.TurnLaws.{refusal_words}
+use Rattle.report.specs.Report.{segment_line, module_line, report_of}
 use Rattle.report.specs.ReportLaws.{segment_none, segment_line_lem, module_none, module_line_lem, report_of_load, report_of_refusal}
 use Rattle.outputs.specs.Outputs.{Exported, kernel_line_of, module_line_of, lines_of, Outputs}
 
@@ -93,56 +94,53 @@ low_zeros : (n : ℕ) → Low (zeros n)
 low_zeros zero = none
 low_zeros (suc n) = more {a = 0} (omega arith) (low_zeros n)
 
--- the words of a decision: 8, then 48 of segments, 32 of modules, the count of false headers, and 7 zeros
-module _ (d : Decision) where
+-- the words of a load with the plan q: 8, then 48 of segments, 32 of modules, the count of false headers, and 7 zeros
+module _ (q : Plan) where
   abbrev to_segments : List ℕ
-  to_segments = head_words d ++ segments_words d.plan.kernel
+  to_segments = head_words (Ok q) ++ segments_words q.kernel
 
   abbrev to_modules : List ℕ
-  to_modules = to_segments ++ modules_words d.plan.modules
+  to_modules = to_segments ++ modules_words q.modules
 
   length_segments : length to_segments ≡ 56
   unfolding head_words
-  length_segments = length-append (head_words d) (segments_words d.plan.kernel) ∙ omega (arith, length_joined (segment_words d.plan.kernel) 3 (λ i. refl) max_segments)
+  length_segments = length-append (head_words (Ok q)) (segments_words q.kernel) ∙ omega (arith, length_joined (segment_words q.kernel) 3 (λ i. refl) max_segments)
 
   abbrev behind : List ℕ
-  behind = d.plan.kernel.false_headers ∷ zeros 7
+  behind = q.kernel.false_headers ∷ zeros 7
 
   length_modules : length to_modules ≡ 88
-  length_modules = length-append to_segments (modules_words d.plan.modules) ∙ omega (arith, length_segments, length_joined (module_words d.plan.modules) 2 (λ i. refl) max_modules)
+  length_modules = length-append to_segments (modules_words q.modules) ∙ omega (arith, length_segments, length_joined (module_words q.modules) 2 (λ i. refl) max_modules)
 
-  length_words : length (plan_words d) ≡ 96
+  length_words : length (plan_words (Ok q)) ≡ 96
   unfolding plan_words
   length_words = length-append to_modules behind ∙ omega (arith, length_modules)
 
-  segment_word_lem : (i j k : ℕ) → i < 16 → j < 3 → k ≡ 8 + (3 * i + j) → get_or (plan_words d) k 0 ≡ get_or (segment_words d.plan.kernel i) j 0
+  segment_word_lem : (i j k : ℕ) → i < 16 → j < 3 → k ≡ 8 + (3 * i + j) → get_or (plan_words (Ok q)) k 0 ≡ get_or (segment_words q.kernel i) j 0
   unfolding plan_words head_words
   segment_word_lem i j k u v e =
       get_or-append to_modules behind 0 k (omega (arith, length_modules))
-      ∙ get_or-append to_segments (modules_words d.plan.modules) 0 k (omega (arith, length_segments))
+      ∙ get_or-append to_segments (modules_words q.modules) 0 k (omega (arith, length_segments))
       ∙ ap (λ (a : ℕ). get_or to_segments a 0) e
-      ∙ get_or-append-add (head_words d) (segments_words d.plan.kernel) (3 * i + j) 0
-      ∙ joined_at (segment_words d.plan.kernel) 3 (λ a. refl) max_segments i j u v
+      ∙ get_or-append-add (head_words (Ok q)) (segments_words q.kernel) (3 * i + j) 0
+      ∙ joined_at (segment_words q.kernel) 3 (λ a. refl) max_segments i j u v
 
-  module_word_lem : (i j k : ℕ) → i < 16 → j < 2 → k ≡ 56 + (2 * i + j) → get_or (plan_words d) k 0 ≡ get_or (module_words d.plan.modules i) j 0
+  module_word_lem : (i j k : ℕ) → i < 16 → j < 2 → k ≡ 56 + (2 * i + j) → get_or (plan_words (Ok q)) k 0 ≡ get_or (module_words q.modules i) j 0
   unfolding plan_words
   module_word_lem i j k u v e =
       get_or-append to_modules behind 0 k (omega (arith, length_modules))
       ∙ ap (λ (a : ℕ). get_or to_modules a 0) (omega (arith, length_segments))
-      ∙ get_or-append-add to_segments (modules_words d.plan.modules) (2 * i + j) 0
-      ∙ joined_at (module_words d.plan.modules) 2 (λ a. refl) max_modules i j u v
+      ∙ get_or-append-add to_segments (modules_words q.modules) (2 * i + j) 0
+      ∙ joined_at (module_words q.modules) 2 (λ a. refl) max_modules i j u v
 
-  behind_word : (j k : ℕ) → k ≡ 88 + j → get_or (plan_words d) k 0 ≡ get_or behind j 0
+  behind_word : (j k : ℕ) → k ≡ 88 + j → get_or (plan_words (Ok q)) k 0 ≡ get_or behind j 0
   unfolding plan_words
   behind_word j k e =
       ap (λ (a : ℕ). get_or (to_modules ++ behind) a 0) (omega (arith, length_modules))
       ∙ get_or-append-add to_modules behind j 0
 
-  last_word : (k : ℕ) → 89 ≤ k → get_or (plan_words d) k 0 ≡ 0
+  last_word : (k : ℕ) → 89 ≤ k → get_or (plan_words (Ok q)) k 0 ≡ 0
   last_word k u = behind_word (suc (k - 89)) k (omega arith) ∙ replicate_at 7 (k - 89) 0
-
-  with_plan : (q : Plan) → d.plan ≡ q → plan_words d ≡ plan_words (record { answer = d.answer; plan = q })
-  with_plan q e = ap (λ (r : Plan). plan_words (record { answer = d.answer; plan = r })) e
 
 -- what is known of the plan of a load with n modules: it has no number of more than 32 bits, and exactly the segments and the
 -- modules that it has end above 0
@@ -204,31 +202,30 @@ module _ (x : Lent) (h : Loads x) where
         module_past = λ i u. rw (modules_past x h i u) refl;
       }
 
--- the words of a load
-module _ (a : Answer) (q : Plan) (n : ℕ) (e : number_of a ≡ 0) (f : item_of a ≡ 0) (g : GoodPlan q n) where
-  words_of : Exported q (plan_words (record { answer = a; plan = q }))
+-- the words of a load say its plan, and each is below 2^32
+module _ (q : Plan) (n : ℕ) (g : GoodPlan q n) where
+  words_of : Exported q (plan_words (Ok q))
   unfolding plan_words head_words
   words_of =
-      let d : Decision = record { answer = a; plan = q } in
       record {
-        number = e;
-        item = f;
+        number = refl;
+        item = refl;
         header = omega arith;
         entry = omega arith;
         eax = refl;
         ebx = refl;
         block_start = omega arith;
         block_end = omega arith;
-        starts = λ i u. segment_word_lem d i 0 (8 + 3 * i) u (omega arith) (omega arith) ∙ omega (arith, g.segments i);
-        load_ends = λ i u. segment_word_lem d i 1 (8 + 3 * i + 1) u (omega arith) (omega arith) ∙ omega (arith, g.segments i);
-        extent_ends = λ i u. segment_word_lem d i 2 (8 + 3 * i + 2) u (omega arith) (omega arith) ∙ omega (arith, g.segments i);
-        module_starts = λ i u. module_word_lem d i 0 (56 + 2 * i) u (omega arith) (omega arith) ∙ omega (arith, g.modules i);
-        module_ends = λ i u. module_word_lem d i 1 (56 + 2 * i + 1) u (omega arith) (omega arith) ∙ omega (arith, g.modules i);
-        false_headers = behind_word d 0 88 refl;
-        rest = last_word d;
+        starts = λ i u. segment_word_lem q i 0 (8 + 3 * i) u (omega arith) (omega arith) ∙ omega (arith, g.segments i);
+        load_ends = λ i u. segment_word_lem q i 1 (8 + 3 * i + 1) u (omega arith) (omega arith) ∙ omega (arith, g.segments i);
+        extent_ends = λ i u. segment_word_lem q i 2 (8 + 3 * i + 2) u (omega arith) (omega arith) ∙ omega (arith, g.segments i);
+        module_starts = λ i u. module_word_lem q i 0 (56 + 2 * i) u (omega arith) (omega arith) ∙ omega (arith, g.modules i);
+        module_ends = λ i u. module_word_lem q i 1 (56 + 2 * i + 1) u (omega arith) (omega arith) ∙ omega (arith, g.modules i);
+        false_headers = behind_word q 0 88 refl;
+        rest = last_word q;
       }
 
-  low_of : Low (plan_words (record { answer = a; plan = q }))
+  low_of : Low (plan_words (Ok q))
   unfolding plan_words head_words
   low_of =
       low_append
@@ -260,61 +257,52 @@ module _ (q : Plan) (n : ℕ) (p : List ℕ) (g : GoodPlan q n) (w : Exported q 
   lines_of_lem : report_of p ≡ lines_of q n
   lines_of_lem = sym (report_of_load p w.number) ∙ cc (kernel_lines, module_lines, w.block_start, w.block_end)
 
--- the words of a refusal
-refused : (a : Answer) → plan_words (record { answer = a; plan = no_plan }) ≡ number_of a ∷ item_of a ∷ zeros 94
-unfolding plan_words head_words no_plan joined
-refused a = refl
-
 -- an item is the index of one of 16 modules, or how many false headers there are: at most 2,046
-item_low : (x : Lent) → item_of (decision_of x).answer < 2 ^ 32
+item_low : (x : Lent) → item_of (decision_of x) < 2 ^ 32
 item_low x =
     ⊎_elim
-    (λ (t : eqb (number_of (decision_of x).answer) 16 ≡ true). let r = room_item x (eqb-true _ 16 t) in omega (arith, r.2.count))
-    (λ (t : eqb (number_of (decision_of x).answer) 16 ≡ false).
+    (λ (t : eqb (number_of (decision_of x)) 16 ≡ true). let r = room_item x (eqb-true _ 16 t) in omega (arith, r.2.count))
+    (λ (t : eqb (number_of (decision_of x)) 16 ≡ false).
     ⊎_elim
-    (λ (u : eqb (number_of (decision_of x).answer) 6 ≡ true). omega (arith, (header_item x (eqb-true _ 6 u)).0, false_most (image_in x)))
-    (λ (u : eqb (number_of (decision_of x).answer) 6 ≡ false). omega (arith, item_none (decision_of x).answer (eqb-false _ 6 u) (eqb-false _ 16 t)))
-    (true_or_false (eqb (number_of (decision_of x).answer) 6)))
-    (true_or_false (eqb (number_of (decision_of x).answer) 16))
+    (λ (u : eqb (number_of (decision_of x)) 6 ≡ true). omega (arith, (header_item x (eqb-true _ 6 u)).0, false_most (image_in x)))
+    (λ (u : eqb (number_of (decision_of x)) 6 ≡ false). omega (arith, item_none (decision_of x) (eqb-false _ 6 u) (eqb-false _ 16 t)))
+    (true_or_false (eqb (number_of (decision_of x)) 6)))
+    (true_or_false (eqb (number_of (decision_of x)) 16))
 
-module _ (x : Lent) (e : number_of (decision_of x).answer ≡ 0) where
-  good : GoodPlan (decision_of x).plan (module_count x.submission)
-  good = rw (load_plan x e) (good_plan x (loads x (number_load x e)))
+refusal_low : (r : Refusal) → refusal_item r < 2 ^ 32 → Low (plan_words (Err r))
+refusal_low r l = rw refusal_words (more {a = refusal_number r} (omega (arith, number_most r)) (more l (low_zeros 94)))
 
-  load_item_lem : item_of (decision_of x).answer ≡ 0
-  load_item_lem = item_none (decision_of x).answer (λ n. omega arith) (λ n. omega arith)
+-- the plan of a load
+good : (x : Lent) → number_of (decision_of x) ≡ 0 → GoodPlan (plan_given (decision_of x)) (module_count x.submission)
+good x e = rw (load_plan x e) (good_plan x (loads x (number_load x e)))
 
-  load_words : Exported (decision_of x).plan (plan_words (decision_of x))
-  load_words = words_of (decision_of x).answer (decision_of x).plan (module_count x.submission) e load_item_lem good
+module _ (n : ℕ) where
+  load_outputs : (q : Plan) → GoodPlan q n → Outputs (Ok q) n (plan_words (Ok q)) (report_of (plan_words (Ok q)))
+  load_outputs q g =
+      record {
+        size = length_words q;
+        low = low_at (low_of q n g);
+        load_words = λ e. words_of q n g;
+        load_text = λ e. lines_of_lem q n (plan_words (Ok q)) g (words_of q n g);
+        refusal_words = λ h. absurd (h refl);
+        refusal_text = λ h. absurd (h refl);
+      }
 
-  load_low : Low (plan_words (decision_of x))
-  load_low = low_of (decision_of x).answer (decision_of x).plan (module_count x.submission) e load_item_lem good
-
-module _ (x : Lent) (r : number_of (decision_of x).answer ≡ 0 → ⊥) where
-  refusal_words : plan_words (decision_of x) ≡ number_of (decision_of x).answer ∷ item_of (decision_of x).answer ∷ zeros 94
-  refusal_words = with_plan (decision_of x) no_plan (refusal_plan x r) ∙ refused (decision_of x).answer
-
-  refusal_low : Low (plan_words (decision_of x))
-  refusal_low = rw refusal_words (more {a = number_of (decision_of x).answer} (omega (arith, number_most (decision_of x).answer)) (more (item_low x) (low_zeros 94)))
-
-  refusal_text_lem : report_of (plan_words (decision_of x)) ≡ refusal_text (number_of (decision_of x).answer) (item_of (decision_of x).answer)
+  refusal_outputs : (r : Refusal) → refusal_item r < 2 ^ 32 → Outputs (Err r) n (plan_words (Err r)) (report_of (plan_words (Err r)))
   unfolding plan_words head_words
-  refusal_text_lem = sym (report_of_refusal (plan_words (decision_of x)) r)
+  refusal_outputs r l =
+      record {
+        size = ap length (refusal_words r);
+        low = low_at (refusal_low r l);
+        load_words = λ e. absurd (omega (arith, number_least r));
+        load_text = λ e. absurd (omega (arith, number_least r));
+        refusal_words = λ h. refusal_words r;
+        refusal_text = λ h. sym (report_of_refusal (plan_words (Err r)) h);
+      }
 
-words_low : (x : Lent) → Low (plan_words (decision_of x))
-words_low x =
-    ⊎_elim
-    (λ (u : 0 < number_of (decision_of x).answer). refusal_low x (λ e. omega arith))
-    (λ (u : number_of (decision_of x).answer ≤ 0). load_low x (omega arith))
-    (lt_or_le 0 (number_of (decision_of x).answer))
+  of_decision : (d : Decision) → (number_of d ≡ 0 → GoodPlan (plan_given d) n) → item_of d < 2 ^ 32 → Outputs d n (plan_words d) (report_of (plan_words d))
+  of_decision (Ok q) g l = load_outputs q (g refl)
+  of_decision (Err r) g l = refusal_outputs r l
 
 pub outputs : (x : Lent) → Outputs (decision_of x) (module_count x.submission) (plan_words (decision_of x)) (report_of (plan_words (decision_of x)))
-outputs x =
-    record {
-      size = length_words (decision_of x);
-      low = λ k. omega (arith, low_at (words_low x) k);
-      load_words = load_words x;
-      load_text = λ e. lines_of_lem (decision_of x).plan (module_count x.submission) (plan_words (decision_of x)) (good x e) (load_words x e);
-      refusal_words = refusal_words x;
-      refusal_text = refusal_text_lem x;
-    }
+outputs x = of_decision (module_count x.submission) (decision_of x) (good x) (item_low x)

@@ -1,5 +1,5 @@
--- What a caller and a reader are given: p are the words that `viertompu::viertompu_load` writes for a decision d with the plan
--- q, t is the text that `report::write_report` makes of them.
+-- What a caller and a reader are given: p are the words that `viertompu::viertompu_load` writes for a decision d, q is the plan
+-- of d, t is the text that `report::write_report` makes of them.
 --     Exported                                                   the words of a load are the numbers of its plan
 --     kernel_line_of, module_line_of, block_line_of, lines_of    the lines of a load, with the same numbers
 --     Outputs                                                    both, and what a refusal gives
@@ -11,7 +11,7 @@ use Rattle.address.specs.Span.{span_no}
 use Rattle.answer.specs.Answer.{number_of, item_of}
 use Rattle.kernel.specs.Kernel.{segment_no}
 use Rattle.decision.specs.declared.Plan.{Plan}
-use Rattle.decision.specs.declared.Decision.{Decision}
+use Rattle.decision.specs.Plan.{Decision, plan_given}
 use Rattle.viertompu.specs.Joined.{joined}
 use Rattle.report.specs.Text.{decimal_text}
 use Rattle.report.specs.Report.{kernel_label, module_label, info_label, line_text, refusal_text}
@@ -60,8 +60,8 @@ pub record Outputs (d : Decision) (n : ℕ) (p t : List ℕ) : Type 0 where
   pub size : length p ≡ 96
   pub low : (k : ℕ) → get_or p k 0 < 2 ^ 32
   -- a load gives the numbers of its plan, in words and in lines
-  pub load_words : number_of d.answer ≡ 0 → Exported d.plan p
-  pub load_text : number_of d.answer ≡ 0 → t ≡ lines_of d.plan n
+  pub load_words : number_of d ≡ 0 → Exported (plan_given d) p
+  pub load_text : number_of d ≡ 0 → t ≡ lines_of (plan_given d) n
   -- a refusal gives its number, its item and 94 zeros, and one line with the number and the item
-  pub refusal_words : (number_of d.answer ≡ 0 → ⊥) → p ≡ number_of d.answer ∷ item_of d.answer ∷ zeros 94
-  pub refusal_text : (number_of d.answer ≡ 0 → ⊥) → t ≡ refusal_text (number_of d.answer) (item_of d.answer)
+  pub refusal_words : (number_of d ≡ 0 → ⊥) → p ≡ number_of d ∷ item_of d ∷ zeros 94
+  pub refusal_text : (number_of d ≡ 0 → ⊥) → t ≡ refusal_text (number_of d) (item_of d)

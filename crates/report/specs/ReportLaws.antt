@@ -3,6 +3,7 @@
 --     segment_none, segment_line_lem                the line of a place without a segment, and with one
 --     module_none, module_line_lem                  the same of modules
 --     segment_short, module_short, refusal_short    no such line is longer than the limit
+--     segments_short, modules_short                 nor are n lines longer than n times the limit
 --     report_of_load, report_of_refusal             which report is given
 --     report_short                                  no report is longer than its limit
 -- Assumes nothing.
@@ -67,6 +68,12 @@ unfolding refusal_text
 refusal_short number item = omega (arith, length_refusal (decimal_text number) (decimal_text item), decimal_short number, decimal_short item)
 
 module _ (p : List ℕ) where
+  pub segments_short : (n : ℕ) → length (joined (segment_line p) n) ≤ max_line_text * n
+  segments_short = joined_short (segment_line p) max_line_text (segment_short p)
+
+  pub modules_short : (n : ℕ) → length (joined (module_line p) n) ≤ max_line_text * n
+  modules_short = joined_short (module_line p) max_line_text (module_short p)
+
   pub report_of_refusal : (number_word p ≡ 0 → ⊥) → refusal_text (number_word p) (item_word p) ≡ report_of p
   unfolding report_of
   report_of_refusal e = rw (ne_eqb _ 0 e) refl
@@ -84,5 +91,5 @@ module _ (p : List ℕ) where
       let segments = joined (segment_line p) max_segments in
       let modules = joined (module_line p) max_modules in
       short (eqb (number_word p) 0) (segments ++ modules ++ info_line p) (refusal_text (number_word p) (item_word p)) max_report
-      (all_short segments modules (info_line p) (joined_short (segment_line p) max_line_text (segment_short p) max_segments) (joined_short (module_line p) max_line_text (module_short p) max_modules) (omega (arith, length_line info_label (block_words p))))
+      (all_short segments modules (info_line p) (segments_short max_segments) (modules_short max_modules) (omega (arith, length_line info_label (block_words p))))
       (omega (arith, refusal_short (number_word p) (item_word p)))

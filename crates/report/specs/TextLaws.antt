@@ -1,7 +1,8 @@
 -- Laws of numbers as text.
 --     length_digits                  so many digits as asked for
 --     decimal_short                  no number has more than ten decimal digits
---     length_field, length_fields    nine bytes for each field, and one for the end of the line
+--     length_field, length_rows      nine bytes for each field
+--     length_fields                  and one for the end of the line
 --     wrote_nothing, wrote_behind    no text, and two texts one behind the other
 -- Assumes nothing.
 use Rattle.std.specs.Prelude.{◌≡◌, refl, List, [], ◌∷◌, ◌++◌, ℕ, zero, suc, ◌+◌, ◌*◌, ◌/◌, ◌%◌, ◌≤◌, length, get_or}
@@ -26,11 +27,14 @@ pub length_field : (x : ℕ) → length (field_text x) ≡ 9
 unfolding field_text
 length_field x = ap suc (length_digits 16 hex_length x)
 
-pub length_fields : (fields : List ℕ) → length (fields_text fields) ≡ 9 * length fields + 1
-unfolding fields_text
-length_fields fields =
-    length-append (joined (λ i. field_text (get_or fields i 0)) (length fields)) (newline ∷ [])
-    ∙ omega (arith, length_joined (λ i. field_text (get_or fields i 0)) 9 (λ i. length_field (get_or fields i 0)) (length fields))
+module _ (fields : List ℕ) where
+  pub length_rows : (n : ℕ) → length (joined (λ i. field_text (get_or fields i 0)) n) ≡ 9 * n
+  length_rows = length_joined (λ i. field_text (get_or fields i 0)) 9 (λ i. length_field (get_or fields i 0))
+
+  pub length_fields : length (fields_text fields) ≡ 9 * length fields + 1
+  unfolding fields_text
+  length_fields =
+      length-append (joined (λ i. field_text (get_or fields i 0)) (length fields)) (newline ∷ []) ∙ omega (arith, length_rows (length fields))
 
 module _ (w : List ℕ) (at : ℕ) where
   pub wrote_nothing : Wrote w at [] w at

@@ -9,10 +9,8 @@ ghost use Rattle.report.specs.Text.{Wrote};
 ghost use Rattle.report.specs.Adds.{Adds};
 ghost use Rattle.report.specs.Report.{max_line_text, max_report, line_text, refusal_text, segment_line, module_line, info_line, report_of};
 
-use kernel::MAX_SEGMENTS;
-use submission::MAX_MODULES;
 use viertompu::{
-    BLOCK_END, BLOCK_START, ENTRY, FIRST_MODULE, FIRST_SEGMENT, ITEM, NUMBER, WORDS,
+    BLOCK_END, BLOCK_START, ENTRY, FALSE_HEADERS, FIRST_MODULE, FIRST_SEGMENT, ITEM, NUMBER, WORDS,
     WORDS_PER_MODULE, WORDS_PER_SEGMENT,
 };
 
@@ -60,53 +58,33 @@ fn write_refusal(out: &mut Writer, number: u32, item: u32)
     out.bytes(b"\n");
 }
 
-// Writes a line for each segment. Here and for the modules the loop is one call: a function over both would be longer than they are.
+// Writes a line for each segment; a place whose segment ends at 0 has none.
+#[tactic(auto, using(crate::specs::ReportLaws::segments_short, crate::specs::AddsLaws::adds_nothing), unfolding(viertompu::specs::Joined::joined))]
 fn write_segments(out: &mut Writer, plan: &[u32; WORDS])
     requires { out.old.at + max_line_text * max_segments < 2 ^ 64 }
     ensures { Adds out.old (joined (segment_line plan.now) max_segments) out.new }
 {
-    for i in 0..MAX_SEGMENTS {
-        write_segment(out, plan, i);
+    let (segments, _) = plan[FIRST_SEGMENT..FIRST_MODULE].as_chunks::<WORDS_PER_SEGMENT>();
+    for &[start, load_end, end] in segments {
+        if end != 0 {
+            write_line(out, b"kernel", &[start, load_end, end, plan[ENTRY]]);
+        }
     }
 }
 
-// Writes the line of a segment; a place whose segment ends at 0 has none.
-fn write_segment(out: &mut Writer, plan: &[u32; WORDS], i: usize)
-    requires { (i < max_segments) × (out.old.at + max_line_text < 2 ^ 64) }
-    ensures { Adds out.old (segment_line plan.now i) out.new }
-{
-    let from = FIRST_SEGMENT + WORDS_PER_SEGMENT * i;
-    let end = plan[from + 2];
-    if end != 0 {
-        write_line(
-            out,
-            b"kernel",
-            &[plan[from], plan[from + 1], end, plan[ENTRY]],
-        );
-    }
-}
-
-// Writes a line for each module.
+// Writes a line for each module with its index; a place whose module ends at 0 has none.
+#[tactic(auto, using(crate::specs::ReportLaws::modules_short, crate::specs::TextLaws::decimal_short, crate::specs::AddsLaws::adds_nothing), unfolding(viertompu::specs::Joined::joined))]
 fn write_modules(out: &mut Writer, plan: &[u32; WORDS])
     requires { out.old.at + max_line_text * max_modules < 2 ^ 64 }
     ensures { Adds out.old (joined (module_line plan.now) max_modules) out.new }
 {
-    for i in 0..MAX_MODULES {
-        write_module(out, plan, i);
-    }
-}
-
-// Writes the line of a module with its index; a place whose module ends at 0 has none.
-fn write_module(out: &mut Writer, plan: &[u32; WORDS], i: usize)
-    requires { (i < max_modules) × (out.old.at + max_line_text < 2 ^ 64) }
-    ensures { Adds out.old (module_line plan.now i) out.new }
-{
-    let from = FIRST_MODULE + WORDS_PER_MODULE * i;
-    let end = plan[from + 1];
-    if end != 0 {
-        out.bytes(b"module ");
-        out.decimal(i as u32);
-        out.fields(&[plan[from], end]);
+    let (modules, _) = plan[FIRST_MODULE..FALSE_HEADERS].as_chunks::<WORDS_PER_MODULE>();
+    for (i, &[start, end]) in modules.iter().enumerate() {
+        if end != 0 {
+            out.bytes(b"module ");
+            out.decimal(i as u32);
+            out.fields(&[start, end]);
+        }
     }
 }
 

@@ -10,7 +10,8 @@ const HEX: usize = 8;
 
 const DECIMAL: usize = 10;
 
-// The buffer, and the offset behind what is written.
+// The buffer, and the offset behind what is written. Numbers are not written by `write!`: it promises its text only where it gives
+// `Ok`, and `write_report` promises the report always.
 #[derive(Drop)]
 pub(crate) struct Writer<'a> {
     pub(crate) text: &'a mut [u8],
@@ -37,6 +38,7 @@ impl Writer<'_> {
     }
 
     // Writes the numbers, each behind a blank in eight hexadecimal digits, and ends the line.
+    #[tactic(auto, using(crate::specs::AddsLaws::adds_nothing), unfolding(viertompu::specs::Joined::joined))]
     pub(crate) fn fields(&mut self, fields: &[u32])
         requires { self.old.at + 9 * length fields.now + 1 < 2 ^ 64 }
         ensures { Adds self.old (fields_text fields.now) self.new }

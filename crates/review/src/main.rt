@@ -53,6 +53,7 @@ fn read_full<R: Read>(input: &mut R, buffer: &mut [u8]) -> io::Result<usize>
 }
 
 // Writes what is printed for the n bytes that were read, and gives its length.
+#[tactic(auto, using(crate::proofs::ReviewLaws::printed_over, crate::proofs::ReviewLaws::printed_within))]
 fn review(input: &[u8; READ], n: usize, text: &mut [u8; report::MAX_REPORT]) -> usize
     ensures text_after { take result text.new ≡ printed_for (take n input.now) }
     ensures upper_bound { result ≤ length text.new }
