@@ -1,7 +1,8 @@
 // The numbered answers of a load: 0, or the first check that refuses.
 #![tactic(auto)]
 
-ghost use Rattle.std.specs.Prelude.{◌≡◌};
+ghost use Rattle.std.specs.Prelude.{◌≡◌, Ok};
+ghost use Rattle.std.specs.Result.{result_and};
 ghost use Rattle.answer.specs.Answer.{refusal_number, refusal_item, number_of, item_of};
 
 // What a check or a load answers: a value, or the first refusal that applies.
@@ -93,6 +94,17 @@ impl Refusal {
             _ => 0,
         }
     }
+}
+
+// Puts the value that is read into the room for it, and gives a refusal. It is not inlined, so that the answer, which holds the value
+// once more, is not on the caller's stack any longer.
+#[inline(never)]
+pub fn read_into<T: Copy, F: FnOnce() -> Answer<T>>(room: &mut T, read: F) -> Answer<()>
+    requires { F.pre read }
+    ensures { (r : _) × F.post read r × (result_and result (Ok room.new) ≡ r) }
+{
+    *room = read()?;
+    Ok(())
 }
 
 // The number of an answer: 0, or that of the refusal.

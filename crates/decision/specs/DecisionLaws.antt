@@ -2,6 +2,7 @@
 --     lent_chain                                             its stages, one after the other
 --     LentPassed, lent_passed                                what is known where none of them applies
 --     prepared, block_small                                  so that the items can be placed
+--     read_given, read_refused                               what reading into a room gives
 --     submission_refused, .. image_refused                   the decision where a stage refuses
 --     Stages, stages_known                                   what the stages read where none does
 --     decided_on                                             then the decision is the one on memory
@@ -10,7 +11,7 @@
 -- Assumes nothing.
 use Rattle.std.specs.Bool.{⊤}
 use Rattle.std.specs.Result.{result_and}
-use Rattle.std.specs.Prelude.{Ok, Err, ◌≡◌, refl, true, false, ℕ, ◌+◌, ◌^◌, ◌≤◌, ◌<◌}
+use Rattle.std.specs.Prelude.{Result, Ok, Err, ◌≡◌, refl, true, false, ℕ, ◌+◌, ◌^◌, ◌≤◌, ◌<◌}
 use Rattle.std.proofs.Math.Path.{sym, ap}
 use Rattle.std.proofs.Common.{arith, ◌∙◌}
 use mathlib.Core.List.{List, [], ◌++◌, append_assoc, append-nil}
@@ -135,6 +136,14 @@ pub record Stages (x : Lent) (l : Layout) (w : Span) (m : MemoryMap) (k : Kernel
   pub window : w ≡ window_span x.first x.size
   pub map : m ≡ map_of x.map
   pub kernel : k ≡ kernel_in x
+
+-- what `read_into` puts into the room, and what it refuses, as the answer r that it read
+module _ {A : Type 0} (a : Result ⊤ Refusal) (v : A) (r p : Result A Refusal) (f : result_and a (Ok v) ≡ r) (e : r ≡ p) where
+  pub read_given : (u : ⊤) → a ≡ Ok u → p ≡ Ok v
+  read_given u h = sym (f ∙ e) ∙ ap (λ (b : Result ⊤ Refusal). result_and b (Ok v)) h
+
+  pub read_refused : (x : Refusal) → a ≡ Err x → p ≡ Err x
+  read_refused x h = sym (f ∙ e) ∙ ap (λ (b : Result ⊤ Refusal). result_and b (Ok v)) h
 
 -- what the stages give, one after the other: s the submission, o the operator's line, and so on
 module _ (x : Lent) where

@@ -8,12 +8,14 @@ ghost use Rattle.decision.specs.Decision.{decision_of};
 use address::Span;
 use answer::Answer;
 use board::Board;
+use memory_map::MemoryMap;
+use submission::Layout;
 use kernel::Kernel;
 
 mod place;
 
 // Where everything of a load lies, and what is handed over besides the entry; past the last module the spans are zero.
-#[derive(Clone, Copy)]
+#[derive(Clone, Copy, Default)]
 pub struct Plan {
     pub kernel: Kernel,
     pub modules: [Span; submission::MAX_MODULES],
@@ -33,21 +35,20 @@ pub fn decide<'a>(
 ) -> Answer<Plan>
     ensures { result ≡ decision_of (lent submission.now operator.now map.now first size) }
 {
-    let layout = submission::parse(submission)?;
+    let mut layout = Layout::default();
+    answer::read_into(&mut layout, || submission::parse(submission))?;
     command_line::check_operator(operator)?;
     let window = board::window::check_window(first, size)?;
-    let pairs = memory_map::parse(map)?;
-    let kernel = image::judge(submission::bytes_of(submission, layout.image))?;
-    let mut plan = Plan {
-        kernel,
-        modules: [Span::none(); submission::MAX_MODULES],
-        block: Span::none(),
-        eax: 0,
-        ebx: 0,
+    let mut board = Board {
+        map: MemoryMap::default(),
+        window,
     };
+    answer::read_into(&mut board.map, || memory_map::parse(map))?;
+    let mut plan = Plan::default();
+    let image = submission::bytes_of(submission, layout.image);
+    answer::read_into(&mut plan.kernel, || image::judge(image))?;
     let line = command_line::in_force(operator, submission);
     let length = block::size::block_length(&layout, map.len(), line.len());
-    let board = Board { map: pairs, window };
     place::decide_memory(&board, &layout, length as u64, &mut plan)?;
     Ok(plan)
 }

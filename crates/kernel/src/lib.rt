@@ -14,7 +14,7 @@ pub const MAX_SEGMENTS: usize = 16;
 
 // A stretch of the kernel: the addresses from start up to the load end get the image's bytes from `offset` on, those from
 // there up to the extent end zeros.
-#[derive(Clone, Copy)]
+#[derive(Clone, Copy, Default)]
 pub struct Segment {
     pub start: PhysAddr,
     pub load_end: PhysAddr,
@@ -55,7 +55,7 @@ pub struct FoundHeader {
 
 // What an image asks for: its header, whether modules lie on pages, the entry, and its segments; past the last segment the
 // entries are zero.
-#[derive(Clone, Copy)]
+#[derive(Clone, Copy, Default)]
 pub struct Kernel {
     pub header: ImageOffset,
     pub false_headers: u32,

@@ -33,7 +33,7 @@ pub struct Pair {
 }
 
 // The pairs of a map; past the last the entries are zero.
-#[derive(Clone, Copy)]
+#[derive(Clone, Copy, Default)]
 pub struct MemoryMap {
     pub pairs: [Pair; MAX_PAIRS],
     pub count: usize,

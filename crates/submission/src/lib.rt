@@ -42,7 +42,7 @@ pub struct Module {
 
 // The parts of a submission, the ceilings of its modules in MiB, and where the last part ends; past the last module the entries
 // are zero. The ceilings stand apart, since one table of modules with their ceilings takes 1,950 bytes of stack more.
-#[derive(Clone, Copy)]
+#[derive(Clone, Copy, Default)]
 pub struct Layout {
     pub image: Part,
     pub line: Part,
