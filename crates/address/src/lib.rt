@@ -6,15 +6,15 @@ ghost use Rattle.address.specs.Address.{top, boundary_of, floor, round_up, insid
 ghost use Rattle.address.specs.Span.{no_span, overlap};
 
 // A physical address, or the end of a span of them: an exact whole number.
-#[derive(Clone, Copy, Default, PartialEq, Eq, PartialOrd, Ord)]
+#[derive(Clone, Copy, PartialEq, Eq, PartialOrd, Ord)]
 pub struct PhysAddr(pub u64);
 
 // A place in the image, counted from its first byte.
-#[derive(Clone, Copy, Default, PartialEq, Eq, PartialOrd, Ord)]
+#[derive(Clone, Copy, PartialEq, Eq, PartialOrd, Ord)]
 pub struct ImageOffset(pub usize);
 
 // The addresses from start up to but not including end.
-#[derive(Clone, Copy, Default, PartialEq, Eq)]
+#[derive(Clone, Copy, PartialEq, Eq)]
 pub struct Span {
     pub start: PhysAddr,
     pub end: PhysAddr,

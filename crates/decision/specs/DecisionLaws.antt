@@ -7,11 +7,11 @@
 --     Stages, stages_known                                   what the stages read where none does
 --     decided_on                                             then the decision is the one on memory
 --     board_is, block_length_is, prepared_is, decision_is    the same as the calls hand it over
---     memory_refused, memory_passed                          the decision where the checks on memory refuse, and where they pass
+--     memory_value, memory_given                             what the checks on memory answer, and the plan that they leave
 -- Assumes nothing.
 use Rattle.std.specs.Bool.{⊤}
 use Rattle.std.specs.Result.{result_and}
-use Rattle.std.specs.Prelude.{Result, Ok, Err, ◌≡◌, refl, true, false, ℕ, ◌+◌, ◌^◌, ◌≤◌, ◌<◌}
+use Rattle.std.specs.Prelude.{MatchResult, Result, Ok, Err, ◌≡◌, refl, true, false, ℕ, ◌+◌, ◌^◌, ◌≤◌, ◌<◌}
 use Rattle.std.proofs.Math.Path.{sym, ap}
 use Rattle.std.proofs.Common.{arith, ◌∙◌}
 use mathlib.Core.List.{List, [], ◌++◌, append_assoc, append-nil}
@@ -48,6 +48,8 @@ use Rattle.block.specs.WritingLaws.{block_bound}
 use Rattle.decision.specs.Lent.{Lent}
 use Rattle.decision.specs.Read.{layout_in, image_in, kernel_in, line_in, board_in, block_length_in}
 use Rattle.decision.specs.Decided.{memory_checks, memory_plan, memory_decision}
+use Rattle.decision.specs.declared.Plan.{Plan}
+use Rattle.decision.specs.Plan.{no_plan, plan_given}
 use Rattle.decision.specs.Decision.{lent_checks, checks, plan_in, decision_of}
 use Rattle.decision.specs.PlacedLaws.{Prepared}
 
@@ -145,28 +147,33 @@ module _ {A : Type 0} (a : Result ⊤ Refusal) (v : A) (r p : Result A Refusal) 
   pub read_refused : (x : Refusal) → a ≡ Err x → p ≡ Err x
   read_refused x h = sym (f ∙ e) ∙ ap (λ (b : Result ⊤ Refusal). result_and b (Ok v)) h
 
+-- a refusal, as the decision gives it
+abbrev pub Refused : Lent → Refusal → Type 0
+Refused x r = (Err r ≡ first_of (checks x) (tt {0})) × (no_plan ≡ plan_given (decision_of x))
+
 -- what the stages give, one after the other: s the submission, o the operator's line, and so on
 module _ (x : Lent) where
-  refused : (r : Refusal) → Err r ≡ first_of (lent_checks x) (tt {0}) → Err r ≡ decision_of x
+  refused : (r : Refusal) → Err r ≡ first_of (lent_checks x) (tt {0}) → Refused x r
   unfolding decision_of checks
-  refused r h = chain_first (lent_checks x) _ r (tt {0}) (plan_in x) (sym h)
+  refused r h =
+      (chain_first (lent_checks x) _ r (tt {0}) (tt {0}) (sym h), rw (← chain_first (lent_checks x) _ r (tt {0}) (plan_in x) (sym h)) refl)
 
-  pub submission_refused : (r : Refusal) → parsed_submission x.submission ≡ Err r → Err r ≡ decision_of x
+  pub submission_refused : (r : Refusal) → parsed_submission x.submission ≡ Err r → Refused x r
   unfolding parsed_submission
   submission_refused r h = refused r (rw (lent_chain x (layout_in x) (tt {0}) (tt {0}) (tt {0}) (tt {0}), h) refl)
 
   module _ (l : Layout) (s : parsed_submission x.submission ≡ Ok l) where
-    pub operator_refused : (r : Refusal) → first_of (operator_checks x.operator) (tt {0}) ≡ Err r → Err r ≡ decision_of x
+    pub operator_refused : (r : Refusal) → first_of (operator_checks x.operator) (tt {0}) ≡ Err r → Refused x r
     unfolding parsed_submission
     operator_refused r h = refused r (rw (lent_chain x (layout_in x) (tt {0}) (tt {0}) (tt {0}) (tt {0}), s, h) refl)
 
     module _ (u : ⊤) (o : first_of (operator_checks x.operator) (tt {0}) ≡ Ok u) where
-      pub window_refused : (r : Refusal) → first_of (window_checks x.first x.size) (window_span x.first x.size) ≡ Err r → Err r ≡ decision_of x
+      pub window_refused : (r : Refusal) → first_of (window_checks x.first x.size) (window_span x.first x.size) ≡ Err r → Refused x r
       unfolding parsed_submission
       window_refused r h = refused r (rw (lent_chain x (layout_in x) (tt {0}) (window_span x.first x.size) (tt {0}) (tt {0}), s, o, h) refl)
 
       module _ (w : Span) (v : first_of (window_checks x.first x.size) (window_span x.first x.size) ≡ Ok w) where
-        pub map_refused : (r : Refusal) → parsed_map x.map ≡ Err r → Err r ≡ decision_of x
+        pub map_refused : (r : Refusal) → parsed_map x.map ≡ Err r → Refused x r
         unfolding parsed_submission parsed_map
         map_refused r h = refused r (rw (lent_chain x (layout_in x) (tt {0}) (window_span x.first x.size) (map_of x.map) (tt {0}), s, o, v, h) refl)
 
@@ -177,11 +184,12 @@ module _ (x : Lent) where
           image_known : i ≡ image_in x
           image_known = rw layout_known at is
 
-          pub image_refused : (r : Refusal) → judged i ≡ Err r → Err r ≡ decision_of x
+          pub image_refused : (r : Refusal) → judged i ≡ Err r → Refused x r
           unfolding parsed_submission parsed_map judged checks decision_of
           image_refused r h =
-              chain_first (lent_checks x) _ r (kernel_in x) (plan_in x)
-              (rw (lent_chain x (layout_in x) (tt {0}) (window_span x.first x.size) (map_of x.map) (kernel_in x), s, o, v, p, ← image_known, h) refl)
+              let g : first_of (lent_checks x) (kernel_in x) ≡ Err r =
+              rw (lent_chain x (layout_in x) (tt {0}) (window_span x.first x.size) (map_of x.map) (kernel_in x), s, o, v, p, ← image_known, h) refl in
+              (chain_first (lent_checks x) _ r (kernel_in x) (tt {0}) g, rw (← chain_first (lent_checks x) _ r (kernel_in x) (plan_in x) g) refl)
 
           pub stages_known : (k : Kernel) → judged i ≡ Ok k → Stages x l w m k
           unfolding parsed_submission parsed_map judged
@@ -217,13 +225,25 @@ module _ (x : Lent) (b : Board) (k : Kernel) (l : Layout) (n : ℕ) (be : b ≡ 
   pub decision_is : passes (lent_checks x) ≡ true → memory_decision b k l n ≡ decision_of x
   decision_is h = rw (be, ke, le, ne) (decided_on x h)
 
-  -- where the checks on memory refuse, and where they pass
-  pub memory_refused : passes (lent_checks x) ≡ true → (r : Refusal) → first_of (memory_checks b k l n) (tt {0}) ≡ Err r → Err r ≡ decision_of x
-  memory_refused h r e =
-      chain_first (memory_checks b k l n) [] r (tt {0}) (memory_plan b k l n) e ∙ rw append-nil (decision_is h)
+  -- where the checks before 15 pass, those on memory are left, whatever the value
+  memory_left : {A : Type 0} (z : A) → passes (lent_checks x) ≡ true → first_of (memory_checks b k l n) z ≡ first_of (checks x) z
+  unfolding checks
+  memory_left z h = rw (be, ke, le, ne) (chain_second (lent_checks x) _ _ (tt {0}) z (passes_on (lent_checks x) (tt {0}) h))
 
-  pub memory_passed : passes (lent_checks x) ≡ true → (u : ⊤) → first_of (memory_checks b k l n) (tt {0}) ≡ Ok u → Ok (memory_plan b k l n) ≡ decision_of x
-  memory_passed h u e = sym (passes_on (memory_checks b k l n) (memory_plan b k l n) (ok_passed (memory_checks b k l n) _ _ e).0) ∙ decision_is h
+  pub memory_value : (r : Result ⊤ Refusal) → passes (lent_checks x) ≡ true → r ≡ first_of (memory_checks b k l n) (tt {0}) → r ≡ first_of (checks x) (tt {0})
+  memory_value r h e = e ∙ memory_left (tt {0}) h
+
+  -- the plan that they leave, v, in the place of zeros w
+  pub memory_given : (r : Result ⊤ Refusal) (w v : Plan) → passes (lent_checks x) ≡ true → r ≡ first_of (memory_checks b k l n) (tt {0}) → w ≡ no_plan
+      → MatchResult r (λ _. v ≡ memory_plan b k l n) (λ _. v ≡ w) → v ≡ plan_given (decision_of x)
+  unfolding decision_of
+  memory_given (Ok u) w v h e f m =
+      let p = (ok_passed (memory_checks b k l n) _ _ (sym e)).0 in
+      rw (← memory_left (plan_in x) h, passes_on (memory_checks b k l n) (plan_in x) p) (m ∙ rw (be, ke, le, ne) refl)
+  memory_given (Err q) w v h e f m =
+      let g : first_of (memory_checks b k l n) (plan_in x) ≡ Err q =
+      sym (chain_first (memory_checks b k l n) [] q (tt {0}) (plan_in x) (sym e) ∙ rw append-nil refl) in
+      rw (← memory_left (plan_in x) h, g) (m ∙ f)
 
 pub block_length_is : (x : Lent) (l : Layout) (line : List ℕ) (n : ℕ) → l ≡ layout_in x → line ≡ line_in x
     → n ≡ block_length (string_lengths l l.count) (length x.map) (length line)

@@ -3,7 +3,9 @@
 
 ghost use Rattle.std.specs.Prelude.{◌≡◌};
 ghost use Rattle.decision.specs.Lent.{lent};
-ghost use Rattle.decision.specs.Decision.{decision_of};
+ghost use Rattle.laws.specs.Checks.{first_of};
+ghost use Rattle.decision.specs.Decision.{checks, decision_of};
+ghost use Rattle.decision.specs.Plan.{no_plan, plan_given};
 
 use address::Span;
 use answer::Answer;
@@ -15,7 +17,7 @@ use kernel::Kernel;
 mod place;
 
 // Where everything of a load lies, and what is handed over besides the entry; past the last module the spans are zero.
-#[derive(Clone, Copy, Default)]
+#[derive(Clone, Copy)]
 pub struct Plan {
     pub kernel: Kernel,
     pub modules: [Span; submission::MAX_MODULES],
@@ -24,17 +26,37 @@ pub struct Plan {
     pub ebx: u32,
 }
 
-// The plan of a submission, an operator's line, a memory map, and a window of `size` bytes from `first` on, or the first refusal
-// in the order of checks.
+impl Plan {
+    // A plan of zeros, which is that of a refusal.
+    #[tactic(auto, unfolding(crate::specs::Plan::no_plan))]
+    pub fn none() -> Plan
+        ensures { result ≡ no_plan }
+    {
+        Plan {
+            kernel: kernel::no_kernel(),
+            modules: [Span::none(); submission::MAX_MODULES],
+            block: Span::none(),
+            eax: 0,
+            ebx: 0,
+        }
+    }
+}
+
+// Decides on a submission, an operator's line, a memory map, and a window of `size` bytes from `first` on: gives the first refusal in
+// the order of checks, and puts the plan of a load into `plan`, or zeros. All that is large is read into room of its own, since an
+// answer that holds it takes its size once more of the stack.
 pub fn decide<'a>(
     submission: &'a [u8],
     operator: &'a [u8],
     map: &[u8],
     first: u32,
     size: usize,
-) -> Answer<Plan>
-    ensures { result ≡ decision_of (lent submission.now operator.now map.now first size) }
+    plan: &mut Plan,
+) -> Answer<()>
+    ensures value { result ≡ first_of (checks (lent submission.now operator.now map.now first size)) tt }
+    ensures plan_after { plan.new ≡ plan_given (decision_of (lent submission.now operator.now map.now first size)) }
 {
+    *plan = Plan::none();
     let mut layout = Layout::default();
     answer::read_into(&mut layout, || submission::parse(submission))?;
     command_line::check_operator(operator)?;
@@ -44,11 +66,10 @@ pub fn decide<'a>(
         window,
     };
     answer::read_into(&mut board.map, || memory_map::parse(map))?;
-    let mut plan = Plan::default();
+    let mut kernel = kernel::no_kernel();
     let image = submission::bytes_of(submission, layout.image);
-    answer::read_into(&mut plan.kernel, || image::judge(image))?;
+    answer::read_into(&mut kernel, || image::judge(image))?;
     let line = command_line::in_force(operator, submission);
     let length = block::size::block_length(&layout, map.len(), line.len());
-    place::decide_memory(&board, &layout, length as u64, &mut plan)?;
-    Ok(plan)
+    place::decide_memory(&board, &kernel, &layout, length as u64, plan)
 }

@@ -1,5 +1,5 @@
 // The checks on memory, 15 to 17, and the plan.
-ghost use Rattle.std.specs.Prelude.{◌≡◌, ◌+◌, ◌≤◌, OnOk};
+ghost use Rattle.std.specs.Prelude.{◌≡◌, ◌+◌, ◌≤◌, MatchResult};
 ghost use Rattle.laws.specs.Checks.{first_of};
 ghost use Rattle.submission.specs.Format.{max_modules};
 ghost use Rattle.kernel.specs.Kernel.{max_segments};
@@ -47,26 +47,26 @@ fn check_room(done: usize, n: usize) -> Answer<()>
     }
 }
 
-// Checks 15 to 17 of a plan's kernel with the modules of a submission and an information block of `size` bytes, and then where the
-// modules and the block go. The plan is filled in where it stands, since each copy of one takes 800 bytes of stack.
-pub(crate) fn decide_memory(board: &Board, layout: &Layout, size: u64, plan: &mut Plan) -> Answer<()>
-    requires { Prepared board.now plan.old.kernel layout.now size }
-    ensures value { result ≡ first_of (memory_checks board.now plan.old.kernel layout.now size) tt }
-    ensures plan_after { OnOk result (plan.new ≡ memory_plan board.now plan.old.kernel layout.now size) }
+// Checks 15 to 17 of a kernel with the modules of a submission and an information block of `size` bytes; puts the plan of a load into
+// `plan`, and leaves it as it is in a refusal.
+pub(crate) fn decide_memory(board: &Board, kernel: &Kernel, layout: &Layout, size: u64, plan: &mut Plan) -> Answer<()>
+    requires { Prepared board.now kernel.now layout.now size }
+    ensures value { result ≡ first_of (memory_checks board.now kernel.now layout.now size) tt }
+    ensures plan_after { MatchResult result (λ _. plan.new ≡ memory_plan board.now kernel.now layout.now size) (λ _. plan.new ≡ plan.old) }
 {
-    if !kernel_open(board, &plan.kernel) {
+    if !kernel_open(board, kernel) {
         return Err(Refusal::KernelNotOpen);
     }
-    let mut spans = items::extents(&plan.kernel);
+    let mut spans = items::extents(kernel);
     let done = placement::order::place_items(
         board,
         &mut spans,
-        &items::items(layout, plan.kernel.pages, size),
+        &items::items(layout, kernel.pages, size),
     );
     check_room(done, layout.count)?;
-    let count = plan.kernel.count;
-    plan.modules = items::module_spans(&spans, count, layout.count);
-    plan.block = spans.list[count + layout.count];
+    plan.kernel = *kernel;
+    plan.modules = items::module_spans(&spans, kernel.count, layout.count);
+    plan.block = spans.list[kernel.count + layout.count];
     plan.eax = BOOT_MAGIC;
     plan.ebx = plan.block.start.0 as u32;
     Ok(())

@@ -2,7 +2,7 @@
 #![tactic(auto)]
 
 ghost use Rattle.std.specs.Prelude.{◌≡◌, ◌+◌, ◌≤◌, ◌<◌};
-ghost use Rattle.kernel.specs.Kernel.{max_segments, no_segment, extent_no};
+ghost use Rattle.kernel.specs.Kernel.{max_segments, no_segment, no_kernel, extent_no};
 ghost use Rattle.kernel.specs.Checks.{entry_outside, overlaps_earlier, extents_overlap};
 ghost use Rattle.kernel.specs.Judge.{with_entry};
 
@@ -14,7 +14,7 @@ pub const MAX_SEGMENTS: usize = 16;
 
 // A stretch of the kernel: the addresses from start up to the load end get the image's bytes from `offset` on, those from
 // there up to the extent end zeros.
-#[derive(Clone, Copy, Default)]
+#[derive(Clone, Copy)]
 pub struct Segment {
     pub start: PhysAddr,
     pub load_end: PhysAddr,
@@ -55,7 +55,7 @@ pub struct FoundHeader {
 
 // What an image asks for: its header, whether modules lie on pages, the entry, and its segments; past the last segment the
 // entries are zero.
-#[derive(Clone, Copy, Default)]
+#[derive(Clone, Copy)]
 pub struct Kernel {
     pub header: ImageOffset,
     pub false_headers: u32,
@@ -74,6 +74,20 @@ pub fn no_segment() -> Segment
         load_end: PhysAddr(0),
         extent_end: PhysAddr(0),
         offset: ImageOffset(0),
+    }
+}
+
+// A kernel of zeros.
+pub fn no_kernel() -> Kernel
+    ensures { result ≡ no_kernel }
+{
+    Kernel {
+        header: ImageOffset(0),
+        false_headers: 0,
+        pages: false,
+        entry: PhysAddr(0),
+        segments: [no_segment(); MAX_SEGMENTS],
+        count: 0,
     }
 }
 

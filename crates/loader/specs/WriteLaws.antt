@@ -4,13 +4,14 @@
 --     all_written                                       the three writers together make the writes of a load
 --     decision_loaded, memory_loaded, memory_refused    a load and a refusal, as the decision hands them over
 -- Assumes nothing.
+use Rattle.std.specs.Bool.{⊤}
 use Rattle.std.specs.Prelude.{Ok, Err, ◌≡◌, List, [], ◌∷◌, ◌++◌, ℕ, ◌+◌, ◌-◌, ◌^◌, ◌≤◌, ◌<◌, length}
 use Rattle.std.proofs.Math.Path.{refl}
 use Rattle.std.proofs.Common.{ap, ◌∙◌, arith}
 use Rattle.std.proofs.Math.Bool.{true, false}
 use Rattle.laws.specs.Table.{listed}
-use Rattle.laws.specs.Checks.{passes}
-use Rattle.laws.proofs.CheckLaws.{ok_passed, err_failed}
+use Rattle.laws.specs.Checks.{first_of, passes}
+use Rattle.laws.proofs.CheckLaws.{passes_on, ok_passed, err_failed}
 use Rattle.buffer.specs.Patched.{patched}
 use Rattle.buffer.specs.Writes.{written}
 use Rattle.buffer.specs.WritesLaws.{written_append}
@@ -25,6 +26,7 @@ use Rattle.submission.specs.Parse.{parsed_submission}
 use Rattle.submission.specs.RuleLaws.{parsed_good, string_inside}
 use Rattle.kernel.specs.Kernel.{max_segments}
 use Rattle.decision.specs.declared.Plan.{Plan}
+use Rattle.decision.specs.Plan.{plan_given}
 use Rattle.decision.specs.Lent.{Lent}
 use Rattle.decision.specs.Read.{layout_in, kernel_in, line_in}
 use Rattle.decision.specs.Decided.{plan_of}
@@ -97,14 +99,16 @@ module _ (x : Lent) (h : Loads x) (p : Plan) (l : Layout) (pe : p ≡ plan_in x)
 
 -- the decision as it is handed over
 module _ (x : Lent) where
-  pub decision_loaded : (q : Plan) → decision_of x ≡ Ok q → PlanOfLoad x q
+  pub decision_loaded : (u : ⊤) (q : Plan) → first_of (checks x) (tt {0}) ≡ Ok u → q ≡ plan_given (decision_of x) → PlanOfLoad x q
   unfolding decision_of
-  decision_loaded q e = let l = ok_passed (checks x) q (plan_in x) e in record { load = l.0; plan = l.1 }
+  decision_loaded u q e f =
+      let l = (ok_passed (checks x) u (tt {0}) e).0 in
+      record { load = l; plan = f ∙ rw (passes_on (checks x) (plan_in x) l) refl }
 
-  pub memory_loaded : (q : Plan) → decision_of x ≡ Ok q → (w v : List ℕ) → v ≡ written w (writes_of x) → v ≡ memory_after x w
+  pub memory_loaded : passes (checks x) ≡ true → (w v : List ℕ) → v ≡ written w (writes_of x) → v ≡ memory_after x w
   unfolding memory_after
-  memory_loaded q e w v f = let l : passes (checks x) ≡ true = (decision_loaded q e).load in rw l f
+  memory_loaded l w v f = rw l f
 
-  pub memory_refused : (r : Refusal) → decision_of x ≡ Err r → (w : List ℕ) → w ≡ memory_after x w
-  unfolding memory_after decision_of
-  memory_refused r e w = let l : passes (checks x) ≡ false = err_failed (checks x) r (plan_in x) e in rw l refl
+  pub memory_refused : (r : Refusal) → first_of (checks x) (tt {0}) ≡ Err r → (w : List ℕ) → w ≡ memory_after x w
+  unfolding memory_after
+  memory_refused r e w = let l : passes (checks x) ≡ false = err_failed (checks x) r (tt {0}) e in rw l refl

@@ -2,6 +2,7 @@
 #![tactic(auto)]
 
 ghost use Rattle.std.specs.Prelude.{◌≡◌, length, Ok};
+ghost use Rattle.std.specs.Result.{result_and};
 ghost use Rattle.buffer.specs.Patched.{patched, zeros};
 ghost use Rattle.answer.specs.Answer.{number_of};
 ghost use Rattle.decision.specs.Decision.{decision_of};
@@ -67,20 +68,19 @@ pub fn viertompu_load<'a>(
     ensures plan_after { plan.new ≡ plan_words (decision_of (lent submission.now operator.now map.now first (length window.old))) }
     ensures window_after { window.new ≡ memory_after (lent submission.now operator.now map.now first (length window.old)) window.old }
 {
-    let decision = loader::load(submission, operator, map, window, first);
-    write_plan(plan, &decision);
-    answer::number(&decision)
+    let mut of_load = Plan::none();
+    let answer = loader::load(submission, operator, map, window, first, &mut of_load);
+    write_plan(plan, answer, &of_load);
+    answer::number(&answer)
 }
 
-// Writes all words of a decision: those of a load, or the number and the item of a refusal and zeros. It is not inlined: its copy
-// of the plan would stay on the stack of the decision.
-#[inline(never)]
-pub(crate) fn write_plan(plan: &mut [u32; WORDS], decision: &Answer<Plan>)
-    ensures { plan.new ≡ plan_words decision.now }
+// Writes all words of an answer: those of a load with its plan, or the number and the item of a refusal and zeros.
+pub(crate) fn write_plan(plan: &mut [u32; WORDS], answer: Answer<()>, of_load: &Plan)
+    ensures { plan.new ≡ plan_words (result_and answer (Ok of_load.now)) }
 {
     *plan = [0; WORDS];
-    match decision {
-        Ok(of_load) => write_load(plan, of_load),
+    match answer {
+        Ok(()) => write_load(plan, of_load),
         Err(refusal) => {
             plan[NUMBER] = refusal.number();
             plan[ITEM] = refusal.item();

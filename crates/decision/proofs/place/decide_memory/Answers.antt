@@ -17,7 +17,7 @@ place_items-done-requires c = rw (c.extents-spans.ensures, c.items.ensures) (ite
 
 pub returns-in_err-check_room-clause-value : goal.returns-in_err-check_room-clause-value
 returns-in_err-check_room-clause-value c =
-    let p : record { spans = c.place_items-done.new.spans; done = c.place_items-done.result } ≡ placed_by c.args.board.now c.args.plan.now.kernel c.args.layout.now c.args.size =
+    let p : record { spans = c.place_items-done.new.spans; done = c.place_items-done.result } ≡ placed_by c.args.board.now c.args.kernel.now c.args.layout.now c.args.size =
     placed_is _ _ _ _ _ _ _ c.extents-spans.ensures c.items.ensures c.place_items-done.ensures in
     let d = ap (λ (r : Placed). r.done) p in
     let e = err_from_is_err_and c.from_residual.result c.from_residual.ensures.1 in
@@ -25,23 +25,23 @@ returns-in_err-check_room-clause-value c =
 
 pub overflow_cast-plan : goal.overflow_cast-plan
 overflow_cast-plan c =
-    let p : record { spans = c.place_items-done.new.spans; done = c.place_items-done.result } ≡ placed_by c.args.board.now c.args.plan.now.kernel c.args.layout.now c.args.size =
+    let p : record { spans = c.place_items-done.new.spans; done = c.place_items-done.result } ≡ placed_by c.args.board.now c.args.kernel.now c.args.layout.now c.args.size =
     placed_is _ _ _ _ _ _ _ c.extents-spans.ensures c.items.ensures c.place_items-done.ensures in
     let d = ap (λ (r : Placed). r.done) p in
-    let n = all_placed _ _ (ok_passed (room_checks (placed_by c.args.board.now c.args.plan.now.kernel c.args.layout.now c.args.size).done c.args.layout.now.count) _ _ (rw d at (sym c.check_room.ensures ∙ c.in_ok-check_room.was))).0 in
+    let n = all_placed _ _ (ok_passed (room_checks (placed_by c.args.board.now c.args.kernel.now c.args.layout.now c.args.size).done c.args.layout.now.count) _ _ (rw d at (sym c.check_room.ensures ∙ c.in_ok-check_room.was))).0 in
     let b = span_below _ _ _ _ c.requires n c.args.layout.now.count (omega arith) in
     rw (ap (λ (r : Placed). r.spans) p) (omega (arith, b))
 
 pub returns-clause-value : goal.returns-clause-value
 returns-clause-value c =
-    let p : record { spans = c.place_items-done.new.spans; done = c.place_items-done.result } ≡ placed_by c.args.board.now c.args.plan.now.kernel c.args.layout.now c.args.size =
+    let p : record { spans = c.place_items-done.new.spans; done = c.place_items-done.result } ≡ placed_by c.args.board.now c.args.kernel.now c.args.layout.now c.args.size =
     placed_is _ _ _ _ _ _ _ c.extents-spans.ensures c.items.ensures c.place_items-done.ensures in
     let d = ap (λ (r : Placed). r.done) p in
-    decided_load _ _ _ _ _ (told c.kernel_open.ensures c.if-not-kernel_open.false) (ok_passed (room_checks (placed_by c.args.board.now c.args.plan.now.kernel c.args.layout.now c.args.size).done c.args.layout.now.count) _ _ (rw d at (sym c.check_room.ensures ∙ c.in_ok-check_room.was))).0
+    decided_load _ _ _ _ _ (told c.kernel_open.ensures c.if-not-kernel_open.false) (ok_passed (room_checks (placed_by c.args.board.now c.args.kernel.now c.args.layout.now c.args.size).done c.args.layout.now.count) _ _ (rw d at (sym c.check_room.ensures ∙ c.in_ok-check_room.was))).0
 
 pub returns-clause-plan_after : goal.returns-clause-plan_after
 unfolding plan_of
 returns-clause-plan_after c =
-    let p : record { spans = c.place_items-done.new.spans; done = c.place_items-done.result } ≡ placed_by c.args.board.now c.args.plan.now.kernel c.args.layout.now c.args.size =
+    let p : record { spans = c.place_items-done.new.spans; done = c.place_items-done.result } ≡ placed_by c.args.board.now c.args.kernel.now c.args.layout.now c.args.size =
     placed_is _ _ _ _ _ _ _ c.extents-spans.ensures c.items.ensures c.place_items-done.ensures in
     rw (c.module_spans-plan.ensures, ap (λ (r : Placed). r.spans) p) refl
