@@ -64,10 +64,13 @@ pub(crate) fn decide_memory(board: &Board, kernel: &Kernel, layout: &Layout, siz
         &items::items(layout, kernel.pages, size),
     );
     check_room(done, layout.count)?;
-    plan.kernel = *kernel;
-    plan.modules = items::module_spans(&spans, kernel.count, layout.count);
-    plan.block = spans.list[kernel.count + layout.count];
-    plan.eax = BOOT_MAGIC;
-    plan.ebx = plan.block.start.0 as u32;
+    let block = spans.list[kernel.count + layout.count];
+    *plan = Plan {
+        kernel: *kernel,
+        modules: items::module_spans(&spans, kernel.count, layout.count),
+        block,
+        eax: BOOT_MAGIC,
+        ebx: block.start.0 as u32,
+    };
     Ok(())
 }

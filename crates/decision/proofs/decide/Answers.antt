@@ -7,7 +7,7 @@ use Rattle.submission.specs.Parse.{parsed_submission}
 use Rattle.memory_map.specs.Parse.{parsed_map}
 use Rattle.image.specs.Judge.{judged}
 use Rattle.decision.specs.Lent.{Lent, lent}
-use Rattle.decision.specs.DecisionLaws.{read_given, read_refused, submission_refused, operator_refused, window_refused, map_refused, image_refused, lent_passed, prepared, block_small, Stages, stages_known, board_is, block_length_is, prepared_is, memory_value, memory_given}
+use Rattle.decision.specs.DecisionLaws.{read_given, read_refused, submission_refused, operator_refused, window_refused, map_refused, image_refused, lent_passed, prepared, block_small, stages_known, board_is, block_length_is, prepared_is, memory_value, memory_given}
 use Rattle.decision.proofs.decide.Goals as goal
 
 pub returns-in_err-read_into-clause-value : goal.returns-in_err-read_into-clause-value

@@ -44,4 +44,4 @@ unfolding plan_of
 returns-clause-plan_after c =
     let p : record { spans = c.place_items-done.new.spans; done = c.place_items-done.result } ≡ placed_by c.args.board.now c.args.kernel.now c.args.layout.now c.args.size =
     placed_is _ _ _ _ _ _ _ c.extents-spans.ensures c.items.ensures c.place_items-done.ensures in
-    rw (c.module_spans-plan.ensures, ap (λ (r : Placed). r.spans) p) refl
+    rw (c.module_spans.ensures, ap (λ (r : Placed). r.spans) p) refl
