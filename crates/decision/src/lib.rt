@@ -10,9 +10,9 @@ ghost use Rattle.decision.specs.Plan.{no_plan, plan_given};
 use address::Span;
 use answer::Answer;
 use board::Board;
+use kernel::Kernel;
 use memory_map::MemoryMap;
 use submission::Layout;
-use kernel::Kernel;
 
 mod place;
 

@@ -49,7 +49,13 @@ fn check_room(done: usize, n: usize) -> Answer<()>
 
 // Checks 15 to 17 of a kernel with the modules of a submission and an information block of `size` bytes; puts the plan of a load into
 // `plan`, and leaves it as it is in a refusal.
-pub(crate) fn decide_memory(board: &Board, kernel: &Kernel, layout: &Layout, size: u64, plan: &mut Plan) -> Answer<()>
+pub(crate) fn decide_memory(
+    board: &Board,
+    kernel: &Kernel,
+    layout: &Layout,
+    size: u64,
+    plan: &mut Plan,
+) -> Answer<()>
     requires { Prepared board.now kernel.now layout.now size }
     ensures value { result ≡ first_of (memory_checks board.now kernel.now layout.now size) tt }
     ensures plan_after { MatchResult result (λ _. plan.new ≡ memory_plan board.now kernel.now layout.now size) (λ _. plan.new ≡ plan.old) }

@@ -83,9 +83,10 @@ module _ {image : List ℕ} {at : ImageOffset} {flags : ℕ} (r : FlagsFound ima
   pub kind_judged : unknown_request flags ≡ false → undefined_bits flags ≡ false → unknown_kind image flags ≡ false → with_entry (first_of (kind_checks image) (tt {0})) (kernel_of image) ≡ judged image
   unfolding judged image_checks
   kind_judged u d t =
-      rw
-      (chain_append (header_checks image ++ kind_checks image) (entry_checks (kernel_of image)) (tt {0}) (kernel_of image),
-       ← chain_second (header_checks image) (kind_checks image) (tt {0}) (tt {0}) (tt {0}) (sym (header_passed u d t)))
+      rw (
+        chain_append (header_checks image ++ kind_checks image) (entry_checks (kernel_of image)) (tt {0}) (kernel_of image),
+        ← chain_second (header_checks image) (kind_checks image) (tt {0}) (tt {0}) (tt {0}) (sym (header_passed u d t)),
+      )
       refl
 
   -- the header found, by its parts
