@@ -45,6 +45,7 @@ impl Board {
     pub fn all_open(&self, span: Span) -> bool
         ensures { result ≡ all_from (is_open self.now) span.start.0 (span.end.0 - span.start.0) }
     {
+        // The walk goes from edge to edge; no index is counted.
         let mut x = span.start;
         while x.0 < span.end.0 && self.is_open(x) {
             x = self.open_edge(x);

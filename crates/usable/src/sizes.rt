@@ -18,6 +18,7 @@ const MAX_MEM_LOWER: u64 = 640;
 fn usable_run(map: &MemoryMap, start: PhysAddr) -> u64
     ensures { result ≡ run (is_usable map.now) start.0 (address_space - start.0) }
 {
+    // The walk goes from edge to edge; no index is counted.
     let mut x = start;
     while is_usable(map, x) {
         x = map_edge(map, x, PhysAddr(ADDRESS_SPACE));
