@@ -5,13 +5,16 @@
 use Rattle.std.specs.Prelude.{◌≡◌, Ok, Err, List, [], ◌∷◌, ◌++◌, ℕ, ◌+◌, ◌-◌, ◌≤◌}
 use Rattle.std.proofs.Math.Path.{refl, sym, ap}
 use Rattle.std.proofs.Common.{◌∙◌}
+use Rattle.std.proofs.Math.Bool.{false}
 use Rattle.laws.specs.Table.{listed}
-use Rattle.laws.specs.Checks.{first_of}
+use Rattle.laws.specs.Checks.{first_of, passes}
+use Rattle.laws.proofs.CheckLaws.{ok_passed, err_failed}
 use Rattle.buffer.specs.Writes.{Write, written}
 use Rattle.address.specs.Address.{page}
 use Rattle.memory_map.specs.Parse.{pairs_read}
 use Rattle.usable.specs.Usable.{address_space}
 use Rattle.usable.specs.Sizes.{mem_lower, mem_upper}
+use Rattle.placement.specs.Order.{Placed}
 use Rattle.items.specs.LoadItems.{extents_of, items_of}
 use Rattle.decision.specs.declared.Plan.{Plan}
 use Rattle.decision.specs.Lent.{Lent}
@@ -21,7 +24,7 @@ use Rattle.decision.specs.Plan.{Decision}
 use Rattle.decision.specs.Decision.{lent_checks, checks, placed_in, plan_in, decision_of}
 use Rattle.block.specs.Block.{Contents, contents_of, block_of}
 use Rattle.loader.specs.Memory.{segment_write, module_write, contents_in, block_write, segment_writes, module_writes, writes_of, memory_after}
-use Rattle.loader.specs.WriteLaws.{decision_loaded, memory_loaded, memory_refused}
+use Rattle.loader.specs.WriteLaws.{memory_loaded}
 use Rattle.cases.proofs.WalkLaws.{computed_from, items_compute}
 use Rattle.cases.proofs.RunLaws.{computed_lower, computed_upper, lower_computes, upper_computes}
 
@@ -76,9 +79,11 @@ module _ (x : Lent) (w : List ℕ) where
   writes_with_lem = refl
 
   memory_with_lem : (d : Decision) → decision_of x ≡ d → memory_after x w ≡ memory_with x w d (mem_lower (pairs_read x.map)) (mem_upper (pairs_read x.map))
-  unfolding memory_with
-  memory_with_lem (Ok p) e = sym (memory_loaded x p e w (written w (writes_of x)) refl) ∙ rw (writes_with_lem, (decision_loaded x p e).plan) refl
-  memory_with_lem (Err r) e = sym (memory_refused x r e w)
+  unfolding memory_with memory_after decision_of
+  memory_with_lem (Ok p) e =
+      let l = ok_passed (checks x) p (plan_in x) e in
+      sym (memory_loaded x l.0 w (written w (writes_of x)) refl) ∙ rw (writes_with_lem, l.1) refl
+  memory_with_lem (Err r) e = let l : passes (checks x) ≡ false = err_failed (checks x) r (plan_in x) e in rw l refl
 
   pub memory_computes : memory_after x w ≡ model_memory x w (decision_of x)
   unfolding model_memory

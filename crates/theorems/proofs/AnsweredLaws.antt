@@ -18,7 +18,7 @@ use Rattle.std.proofs.Math.Dec.{eqb}
 use Rattle.std.proofs.Math.ListN.{length}
 use Rattle.laws.specs.Checks.{only_if, passes}
 use Rattle.laws.specs.Tests.{any}
-use Rattle.laws.proofs.CheckLaws.{passes_on, not_to_true, not_to_false}
+use Rattle.laws.proofs.CheckLaws.{passes_on, err_failed, not_to_true, not_to_false}
 use Rattle.laws.proofs.TestLaws.{or_none_left, or_none_right, eqb_is, ltb_is, not_is, false_is, or_is, and_is}
 use Rattle.number.specs.Number.{number_at}
 use Rattle.address.specs.Address.{top}
@@ -57,7 +57,6 @@ use Rattle.decision.specs.Decided.{kernel_checks, room_checks}
 use Rattle.decision.specs.Plan.{Decision, no_plan, plan_given}
 use Rattle.decision.specs.Decision.{lent_checks, checks, decision_of, plan_in, placed_in}
 use Rattle.loader.specs.Memory.{memory_after}
-use Rattle.loader.specs.WriteLaws.{memory_refused}
 use Rattle.theorems.specs.Promises.{OfLoad, OfFields, OfElf, OfHeader, bit16, Conditions, Answered}
 
 -- the condition of a refusal is that its check applies
@@ -225,8 +224,9 @@ module _ (x : Lent) where
   refusal_plan = zeros_given (decision_of x)
 
   refusal_window : (w : List ℕ) (d : Decision) → decision_of x ≡ d → (number_of d ≡ 0 → ⊥) → memory_after x w ≡ w
+  unfolding memory_after decision_of
   refusal_window w (Ok q) e h = absurd (h refl)
-  refusal_window w (Err r) e h = sym (memory_refused x r e w)
+  refusal_window w (Err r) e h = let l : passes (checks x) ≡ false = err_failed (checks x) r (plan_in x) e in rw l refl
 
   -- a number is given exactly where its check is the first that applies
   refusal_is : (k : ℕ) → 1 ≤ k → (number_of (decision_of x) ≡ k) ↔ ((holds_in x k ≡ true) × ((j : ℕ) → Before j k → holds_in x j ≡ false))
