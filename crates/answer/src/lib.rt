@@ -1,7 +1,7 @@
 // The numbered answers of a load: 0, or the first check that refuses.
 #![tactic(auto)]
 
-ghost use Rattle.std.specs.Prelude.{◌≡◌, Ok};
+ghost use Rattle.std.specs.Prelude.{◌≡◌, Ok, MatchResult, ⊤};
 ghost use Rattle.std.specs.Result.{result_and};
 ghost use Rattle.answer.specs.Answer.{refusal_number, refusal_item, number_of, item_of};
 
@@ -101,7 +101,8 @@ impl Refusal {
 #[inline(never)]
 pub fn read_into<T: Copy, F: FnOnce() -> Answer<T>>(room: &mut T, read: F) -> Answer<()>
     requires { F.pre read }
-    ensures { (r : _) × F.post read r × (result_and result (Ok room.new) ≡ r) }
+    ensures value { (r : _) × F.post read r × (result_and result (Ok room.new) ≡ r) }
+    ensures room_after { MatchResult result (λ _. ⊤) (λ _. room.new ≡ room.old) }
 {
     *room = read()?;
     Ok(())

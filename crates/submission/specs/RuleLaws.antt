@@ -3,11 +3,12 @@
 --     image_inside, line_inside, data_inside, string_inside    its parts lie inside it
 --     line_no_zero, string_no_zero                             no zero byte in its command line and strings
 --     image_bound, data_bound                                  lengths of 32 bits
---     parsed_good, parsed_layout, parsed_none                  what a parse gives
+--     parsed_good, parsed_layout, parsed_none, parsed_failed,
+--     parsed_modules                                           what a parse gives
 -- Assumes nothing.
-use Rattle.std.specs.Prelude.{Result, Ok, Err, ◌≡◌, Bool, false, ◌&&◌, ◌||◌, ◌⊎◌, ◌↔◌, List, ℕ, ◌+◌, ◌^◌, ◌≤◌, ◌<◌, length, take, drop, get_or}
+use Rattle.std.specs.Prelude.{Result, Ok, Err, is_ok, ◌≡◌, Bool, false, ◌&&◌, ◌||◌, ◌⊎◌, ◌↔◌, List, ℕ, ◌+◌, ◌^◌, ◌≤◌, ◌<◌, length, take, drop, get_or}
 use Rattle.std.proofs.Math.Path.{refl}
-use Rattle.std.proofs.Common.{◌∙◌, inl, inr, eq-or-lt_of_le}
+use Rattle.std.proofs.Common.{sym, ◌∙◌, inl, inr, eq-or-lt_of_le}
 use Rattle.std.proofs.Math.Bool.{true, not}
 use Rattle.std.proofs.lemmas.Bool.{false≢true}
 use Rattle.std.proofs.Math.Logic.{⊎_elim}
@@ -17,14 +18,15 @@ use Rattle.std.proofs.Math.Dec.{leb, eqb}
 use Rattle.laws.specs.Tests.{all_from}
 use Rattle.laws.proofs.TestLaws.{true_or_false, and_left, and_right, all_intro, all_elim}
 use Rattle.laws.specs.Checks.{first_of, passes}
-use Rattle.laws.proofs.CheckLaws.{passes_on, ok_passed, err_failed}
+use Rattle.laws.proofs.CheckLaws.{passes_on, ok_is, ok_passed, err_failed}
+use Rattle.std.specs.Result.{result_unwrap_or}
 use Rattle.number.specs.NumberLaws.{Bytes, bytes_drop, number_bound}
 use Rattle.answer.specs.declared.Refusal.{Refusal}
 use Rattle.submission.specs.Scan.{has_zero, same_bytes}
 use Rattle.submission.specs.ScanLaws.{no_zero, same_is, zero_free}
 use Rattle.submission.specs.Format.{mark, version, module_count, image_length, line_length, prefix_size, entry_offset, data_length, string_length, ceiling, image_start, line_start, data_start, string_start, parts_end, line_bytes, string_bytes, max_modules}
 use Rattle.submission.specs.Layout.{line_part, module_of, layout_of, bytes_of}
-use Rattle.submission.specs.Parse.{parsed_submission}
+use Rattle.submission.specs.Parse.{no_layout, parsed_submission}
 use Rattle.submission.specs.FormatLaws.{data_behind_line, data_behind_string, data_order, length-bytes_of, bytes_of_at, layout_count}
 use Rattle.submission.specs.Rules.{max_line, max_string, is_submission, in_limits, entry_holds, string_holds, rules_hold, submission_checks}
 use Rattle.submission.specs.declared.Part.{Part}
@@ -45,6 +47,11 @@ six true true true false e f h = absurd (false≢true h)
 six true true false d e f h = absurd (false≢true h)
 six true false c d e f h = absurd (false≢true h)
 six false b c d e f h = absurd (false≢true h)
+
+-- a refusal gives no layout
+given_none : (r : Result Layout Refusal) → is_ok r ≡ false → result_unwrap_or r no_layout ≡ no_layout
+given_none (Ok l) h = absurd (false≢true (sym h))
+given_none (Err e) h = refl
 
 -- version 1 or 2
 one_or_two : (v : ℕ) → 1 ≤ v → v ≤ 2 → (v ≡ 1) ⊎ (v ≡ 2)
@@ -89,9 +96,13 @@ module _ (s : List ℕ) where
   unfolding parsed_submission
   parsed_layout l h = ok_passed (submission_checks s) l (layout_of s) h
 
-  pub parsed_none : (r : Refusal) → parsed_submission s ≡ Err r → passes (submission_checks s) ≡ false
+  pub parsed_failed : (r : Refusal) → parsed_submission s ≡ Err r → passes (submission_checks s) ≡ false
   unfolding parsed_submission
-  parsed_none r h = err_failed (submission_checks s) r (layout_of s) h
+  parsed_failed r h = err_failed (submission_checks s) r (layout_of s) h
+
+  pub parsed_none : passes (submission_checks s) ≡ false → result_unwrap_or (parsed_submission s) no_layout ≡ no_layout
+  unfolding parsed_submission
+  parsed_none h = given_none (parsed_submission s) (ok_is (submission_checks s) (layout_of s) ∙ h)
 
   -- the rules, one by one
   rules_apart : rules_hold s ≡ true
@@ -164,6 +175,14 @@ module _ (s : List ℕ) where
   -- an accepted submission keeps them
   pub good_submission : passes (submission_checks s) ≡ true → GoodSubmission s
   good_submission h = rules_good (holds_rules h)
+
+pub parsed_modules : (s : List ℕ) → (result_unwrap_or (parsed_submission s) no_layout).count ≤ max_modules
+unfolding no_layout
+parsed_modules s =
+    ⊎_elim
+    (λ (h : passes (submission_checks s) ≡ true). rw (parsed_good s h, layout_count s) (good_submission s h).count)
+    (λ (h : passes (submission_checks s) ≡ false). rw (parsed_none s h) (omega arith))
+    (true_or_false (passes (submission_checks s)))
 
 module _ (s : List ℕ) (h : GoodSubmission s) where
   pub image_inside : image_start s + image_length s ≤ length s

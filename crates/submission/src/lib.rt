@@ -64,7 +64,7 @@ pub fn parse(s: &[u8]) -> Answer<Layout>
         return Err(Refusal::BadSubmission);
     }
     let layout = read::read_layout(s, count);
-    if !rules::rules_hold(s, layout) {
+    if !rules::rules_hold(s, &layout) {
         return Err(Refusal::BadSubmission);
     }
     Ok(layout)

@@ -2,7 +2,6 @@
 ghost use Rattle.std.specs.Prelude.{◌≡◌, ◌+◌, ◌^◌, ◌≤◌, ◌<◌};
 ghost use Rattle.submission.specs.Format.{version, module_count, entry_offset};
 ghost use Rattle.submission.specs.Layout.{table_entry, module_from, ceiling_table, layout_of};
-ghost use Rattle.submission.specs.Parse.{no_layout};
 ghost use Rattle.submission.specs.Format.{max_modules};
 
 use crate::{Layout, MAX_MODULES, Module, PREFIX, Part, TABLE_ENTRY};
@@ -105,20 +104,4 @@ fn module_from(at: usize, entry: TableEntry) -> Module
         len: entry.string as usize,
     };
     Module { data, string }
-}
-
-// No parts.
-#[tactic(auto, unfolding(crate::specs::Parse::no_layout))]
-pub(crate) fn no_layout() -> Layout
-    ensures { result ≡ no_layout }
-{
-    let none = Part::default();
-    Layout {
-        image: none,
-        line: none,
-        modules: [Module::default(); MAX_MODULES],
-        ceilings: [0; MAX_MODULES],
-        count: 0,
-        end: 0,
-    }
 }

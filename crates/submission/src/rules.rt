@@ -18,8 +18,8 @@ pub(crate) fn is_submission(s: &[u8]) -> bool
 }
 
 // Whether every other rule holds, for a submission with these parts.
-pub(crate) fn rules_hold(s: &[u8], l: Layout) -> bool
-    requires { (l ≡ layout_of s.now) × (module_count s.now ≤ max_modules) }
+pub(crate) fn rules_hold(s: &[u8], l: &Layout) -> bool
+    requires { (l.now ≡ layout_of s.now) × (module_count s.now ≤ max_modules) }
     ensures { result ≡ rules_hold s.now }
 {
     l.line.len <= MAX_LINE
@@ -47,12 +47,11 @@ fn in_limits(version: u16, entry: TableEntry) -> bool
 }
 
 // Whether no module's string holds a zero byte.
-fn strings_hold(s: &[u8], l: Layout) -> bool
-    requires { (l ≡ layout_of s.now) × (module_count s.now ≤ max_modules) }
+fn strings_hold(s: &[u8], l: &Layout) -> bool
+    requires { (l.now ≡ layout_of s.now) × (module_count s.now ≤ max_modules) }
     ensures { result ≡ all_from (string_holds s.now) 0 (module_count s.now) }
 {
-    l.modules
+    l.modules[..l.count]
         .iter()
-        .take(l.count)
         .all(|m| !scan::has_zero(bytes_of(s, m.string)))
 }

@@ -8,7 +8,7 @@ use Rattle.laws.proofs.CheckLaws.{ok_is}
 use Rattle.answer.specs.declared.Refusal.{Refusal}
 use Rattle.submission.specs.Layout.{layout_of, bytes_of}
 use Rattle.submission.specs.FormatLaws.{layout_line}
-use Rattle.submission.specs.RuleLaws.{parsed_layout, parsed_none}
+use Rattle.submission.specs.RuleLaws.{parsed_layout, parsed_failed}
 use Rattle.submission.specs.declared.Layout.{Layout}
 use Rattle.command_line.specs.CommandLine.{operator_checks}
 use Rattle.command_line.specs.CommandLineLaws.{line_refused_submission, line_refused_operator, line_of_operator, line_of_submission}
@@ -19,7 +19,7 @@ operator_told : (line : List ℕ) (r : Result ⊤ Refusal) (b t : Bool) → r �
 operator_told line r b t e n h = sym (ok_is (operator_checks line) (tt {0})) ∙ ap is_ok (sym e) ∙ n ∙ ap not h
 
 pub returns-in_default : goal.returns-in_default
-returns-in_default c = sym (line_refused_submission _ _ (parsed_none _ _ (sym c.parse.ensures ∙ c.in_default.is)))
+returns-in_default c = sym (line_refused_submission _ _ (parsed_failed _ _ (sym c.parse.ensures ∙ c.in_default.is)))
 
 pub returns-then-is_err : goal.returns-then-is_err
 returns-then-is_err c =
