@@ -22,10 +22,10 @@ pub struct Span {
 
 impl PhysAddr {
     // The page size, which page-aligned modules meet.
-    pub const PAGE: u64 = 4096;
+    const PAGE: u64 = 4096;
 
     // The boundary of every other item.
-    pub const WORD: u64 = 4;
+    const WORD: u64 = 4;
 
     // Items are placed from here up.
     pub const FLOOR: PhysAddr = PhysAddr(0x100000);
@@ -33,7 +33,8 @@ impl PhysAddr {
     // A window ends here at the latest.
     pub const TOP: PhysAddr = PhysAddr(0xFFFFF000);
 
-    // The boundary of an item: the page size where pages are asked for, else four bytes.
+    // The boundary of an item: the page size if pages are asked for, else four bytes. `pages` is a bit of the header's flags; it
+    // chooses a number and no step.
     fn boundary(pages: bool) -> u64
         ensures { result ≡ boundary_of pages }
     {

@@ -2,7 +2,7 @@
 #![tactic(auto)]
 
 ghost use Rattle.std.specs.Prelude.{◌≡◌, ◌+◌, ◌≤◌, ◌<◌};
-ghost use Rattle.kernel.specs.Kernel.{max_segments, no_segment, no_kernel, extent_no};
+ghost use Rattle.kernel.specs.Kernel.{max_segments, no_segment, no_kernel};
 ghost use Rattle.kernel.specs.Checks.{entry_outside, overlaps_earlier, extents_overlap};
 ghost use Rattle.kernel.specs.Judge.{with_entry};
 
@@ -89,14 +89,6 @@ pub fn no_kernel() -> Kernel
         segments: [no_segment(); MAX_SEGMENTS],
         count: 0,
     }
-}
-
-// The extent of a segment.
-pub fn extent(kernel: Kernel, i: usize) -> Span
-    requires { i + 1 ≤ max_segments }
-    ensures { result ≡ extent_no kernel i }
-{
-    kernel.segments[i].extent()
 }
 
 // Whether two extents share an address.
