@@ -17,7 +17,8 @@ use Rattle.address.specs.declared.ImageOffset.{ImageOffset}
 use Rattle.header.specs.Header.{header}
 use Rattle.header.specs.HeaderAt.{MagicAt, HeaderAt}
 use Rattle.header.proofs.SearchLaws.{Answers}
-use Rattle.mend.specs.Mend.{Mending, lowest_magic, right_checksum, change_at, mending_of, image_with, image_after}
+use Rattle.mend.specs.Mending.{Mending}
+use Rattle.mend.specs.Mend.{lowest_magic, right_checksum, change_at, mending_of, image_with, image_after}
 use Rattle.mend.proofs.MagicLaws.{magic_kept, lowest_magic_lem}
 use Rattle.mend.specs.Promises.{RightChecksum, MendedAt}
 

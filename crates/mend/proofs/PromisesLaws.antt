@@ -16,7 +16,8 @@ use Rattle.header.proofs.SearchLaws.{Answers}
 use Rattle.header.proofs.HeaderLaws.{word_take, answers, lowest_header}
 use Rattle.header.proofs.FalseHeaderLaws.{header_same}
 use Rattle.mend.specs.declared.Change.{Change}
-use Rattle.mend.specs.Mend.{Mending, lowest_magic, change_at, mending_by, mending_of, image_with, image_after}
+use Rattle.mend.specs.Mending.{Mending}
+use Rattle.mend.specs.Mend.{lowest_magic, change_at, mending_by, mending_of, image_with, image_after}
 use Rattle.mend.proofs.MagicLaws.{lowest_magic_lem, magic_part}
 use Rattle.mend.proofs.MendLaws.{with_header, after_is, mended_at}
 use Rattle.mend.specs.Promises.{MendedAt, MendPromised}

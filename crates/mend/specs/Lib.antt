@@ -1,3 +1,4 @@
 -- The definitions that the contracts of `mend` cite, what they promise, and their laws.
 pub mod Mend
+pub mod Mending
 pub mod Promises

@@ -1,7 +1,7 @@
 -- Mending the checksum of an image.                                                    rule: MENDING
 --     is_magic_at, is_magic_place, place_offset, lowest_magic    the lowest magic where a header may stand
 --     right_checksum, change_at                                  the checksum that makes it one, and the one that stands there
---     Mending, mending_by, mending_of, mend_number               what is answered, and its number
+--     mending_by, mending_of, mend_number                        what is answered, and its number
 --     image_with, image_after                                    the image afterwards
 -- What all this promises of the bytes stands in Promises.
 -- Assumes nothing.
@@ -13,6 +13,7 @@ use Rattle.address.specs.declared.ImageOffset.{ImageOffset}
 use Rattle.header.specs.Header.{header_magic, search_limit, has_room, header}
 use Rattle.mend.specs.declared.Change.{Change}
 use Rattle.mend.specs.declared.NoMagic.{NoMagic}
+use Rattle.mend.specs.Mending.{Mending}
 
 -- the magic stands at the offset o, with room for a header
 unfoldable pub is_magic_at : List ℕ → ℕ → Bool
@@ -38,10 +39,6 @@ right_checksum flags = (2 ^ 32 - (header_magic + flags) % 2 ^ 32) % 2 ^ 32
 -- the checksum of the header at an offset, as it stands and as it has to be
 abbrev pub change_at : List ℕ → ImageOffset → Change
 change_at image o = record { offset = o; old = number_at 4 image (o.0 + 8); new = right_checksum (number_at 4 image (o.0 + 4)) }
-
--- the change at the lowest magic, or none where the image has a header
-abbrev pub Mending : Type 0
-Mending = Result (Option Change) NoMagic
 
 -- what is answered by the header found and the lowest magic: a header is left alone
 abbrev pub mending_by : List ℕ → Option ImageOffset → Option ImageOffset → Mending

@@ -9,7 +9,7 @@ use Rattle.std.specs.Prelude.{◌≡◌, ℕ, ◌+◌, ◌%◌, ◌^◌, ◌<◌
 use Rattle.number.specs.Number.{number_at}
 use Rattle.header.specs.HeaderAt.{MagicAt, HeaderAt}
 use Rattle.mend.specs.declared.Change.{Change}
-use Rattle.mend.specs.Mend.{Mending}
+use Rattle.mend.specs.Mending.{Mending}
 
 -- k is the one number below 2^32 with which magic and flags give 0 modulo 2^32
 pub record RightChecksum (flags k : ℕ) : Type 0 where

@@ -4,7 +4,8 @@
 use Rattle.std.specs.Prelude.{◌≡◌, List, ℕ, Some, None, Ok, Err}
 use Rattle.std.proofs.Math.Path.{refl, subst}
 use Rattle.std.proofs.Common.{arith}
-use Rattle.mend.specs.Mend.{Mending, mending_of, mend_number, image_after}
+use Rattle.mend.specs.Mending.{Mending}
+use Rattle.mend.specs.Mend.{mending_of, mend_number, image_after}
 use Rattle.mend.specs.Promises.{MendedAt, MendPromised}
 use Rattle.mend.proofs.PromisesLaws.{mend_promised}
 use Rattle.viertompu.specs.Words.{word_of}

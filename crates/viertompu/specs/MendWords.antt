@@ -3,7 +3,7 @@
 -- Assumes nothing.
 use Rattle.std.specs.Prelude.{List, [], ◌∷◌, ℕ, Some, None, Ok, Err}
 use Rattle.buffer.specs.Patched.{zeros}
-use Rattle.mend.specs.Mend.{Mending}
+use Rattle.mend.specs.Mending.{Mending}
 use Rattle.viertompu.specs.Words.{word_of}
 
 -- zeros where nothing was mended; the offset of a change is below 2^32
