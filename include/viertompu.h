@@ -193,7 +193,7 @@ uint32_t viertompu_mend(uint8_t *image, size_t image_len, uint32_t report[VIERTO
  *   the map, the kernel and its modules alone. A window at address 0 needs another mapping, since a pointer to it is null; one
  *   from 0x500 up to the same end gives the same answer and plan, as nothing below 0x500 is open.
  * - It uses the SSE registers, so that CR4.OSFXSR must be set, and CR0.EM and CR0.TS clear; it uses neither x87, MMX nor AVX.
- * - A load takes about 8.0 KB of stack, a mend far less; the stack must be aligned to 16 bytes where the call is made, as the
+ * - A load takes about 7.7 KB of stack, a mend far less; the stack must be aligned to 16 bytes where the call is made, as the
  *   System V calls ask. Nothing is written below the stack pointer (no red zone), so that interrupts may run on the same stack
  *   if it has room for them.
  */

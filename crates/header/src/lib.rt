@@ -39,7 +39,9 @@ pub fn has_magic(s: &[u8], at: usize) -> bool
     number::read_u32(s, at) == HEADER_MAGIC
 }
 
-// Whether magic, flags and checksum at the offset `at`, summed modulo 2^32, give 0.
+// Whether magic, flags and checksum at the offset `at`, summed modulo 2^32, give 0. It is not inlined: a search that calls nothing
+// may keep values below the stack pointer, which boot code must not.
+#[inline(never)]
 fn sums_to_zero(s: &[u8], at: usize) -> bool
     requires { at + short_header < 2 ^ 64 }
     ensures { result ≡ sum_is_zero (number_at 4 s.now at) (number_at 4 s.now (at + 4)) (number_at 4 s.now (at + 8)) }

@@ -15,8 +15,7 @@ use submission::Layout;
 // The unit of a ceiling.
 const MIB: u64 = 0x100000;
 
-// The kernel's extents, as spans taken. Neither this nor `items` is inlined: a caller would keep their copies on its stack.
-#[inline(never)]
+// The kernel's extents, as spans taken.
 pub fn extents(kernel: &Kernel) -> Spans
     requires { kernel.now.count ≤ max_segments }
     ensures { result ≡ extents_of kernel.now }
@@ -32,7 +31,6 @@ pub fn extents(kernel: &Kernel) -> Spans
 }
 
 // The modules of a submission, on pages or not, and an information block of `size` bytes, as items.
-#[inline(never)]
 pub fn items(layout: &Layout, pages: bool, size: u64) -> Items
     requires { layout.now.count ≤ max_modules }
     ensures { result ≡ items_of layout.now pages size }

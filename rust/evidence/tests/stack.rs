@@ -76,7 +76,7 @@ fn a_call_takes_the_stack_that_the_header_tells() {
     let most = by_hand.chain(generated).map(used_by).max().expect("there are cases");
     println!("at most {most} bytes of stack");
     assert!(most <= constant("VIERTOMPU_STACK"), "{most} bytes of stack");
-    assert!((7900..8100).contains(&most), "{most} bytes of stack are not about 8.0 KB");
+    assert!((7600..7800).contains(&most), "{most} bytes of stack are not about 7.7 KB");
 }
 
 #[test]
