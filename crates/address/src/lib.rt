@@ -22,10 +22,10 @@ pub struct Span {
 
 impl PhysAddr {
     // The page size, which page-aligned modules meet.
-    const PAGE: u64 = 4096;
+    pub const PAGE: u64 = 4096;
 
     // The boundary of every other item.
-    const WORD: u64 = 4;
+    pub const WORD: u64 = 4;
 
     // Items are placed from here up.
     pub const FLOOR: PhysAddr = PhysAddr(0x100000);
