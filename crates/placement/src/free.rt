@@ -20,7 +20,7 @@ fn is_taken(taken: &Spans, a: PhysAddr) -> bool
 pub(crate) fn is_free(board: &Board, taken: &Spans, a: PhysAddr) -> bool
     ensures { result ≡ is_free (is_open board.now) taken.now a.0 }
 {
-    board.is_open(a) && !is_taken(taken, a)
+    !is_taken(taken, a) && board.is_open(a)
 }
 
 // The nearest edge of a span taken past x and before e, else e.
