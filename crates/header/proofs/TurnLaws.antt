@@ -2,20 +2,39 @@
 --     Passed                        what is known where the search has come to an offset
 --     passed_start                  before the first turn
 --     passed_other, passed_false    a place without the magic, and one with a false header
+--     magic_cut, sum_cut            the tests of a place, made on the bytes cut out there
 --     passed_few                    how many false headers there are at most
 --     passed_found, passed_all      what the search answers
 -- Assumes nothing.
 use Rattle.std.specs.Prelude.{Some, None}
-use Rattle.std.proofs.Common.{◌≡◌, ℕ, ◌+◌, ◌*◌, ◌/◌, ◌%◌, ◌<◌, ◌≤◌, true, false, eqb, List, [], ◌∷◌, length, drop, sym, refl, ap, ◌∙◌, arith, length-append, length-drop}
+use Rattle.std.proofs.Common.{◌≡◌, ℕ, ◌+◌, ◌-◌, ◌*◌, ◌/◌, ◌%◌, ◌<◌, ◌≤◌, Bool, true, false, eqb, List, [], ◌∷◌, length, take, drop, sym, refl, ap, ◌∙◌, arith, length-append, length-drop, drop-drop}
 use Rattle.laws.specs.Passing.{passing}
 use Rattle.laws.proofs.PassingLaws.{passing_taken, passing_left, passing_most, passing_past}
 use Rattle.laws.proofs.CheckLaws.{and_both, and_fails_left, and_fails_right}
-use Rattle.number.specs.Number.{number_at}
+use Rattle.number.specs.Number.{number, number_at}
 use Rattle.header.specs.declared.Searched.{Searched}
 use Rattle.header.specs.Header.{header_magic, search_limit, short_header, sum_is_zero, words, is_header, header_from, header}
 use Rattle.header.specs.FalseHeader.{is_false_header_at, is_false_place, false_headers, searched}
+use Rattle.header.proofs.HeaderLaws.{word_take}
 use Rattle.header.proofs.FalseHeaderLaws.{false_here, no_magic, no_room}
 use Rattle.header.proofs.WalkLaws.{found_at, passed_at, none_left, whole_image}
+
+module _ (s : List ℕ) (at : ℕ) where
+  -- the bytes of a header at the offset `at`, as the search cuts them out
+  abbrev cut : List ℕ
+  cut = take (at + short_header - at) (drop at s)
+
+  cut_first : number_at 4 cut 0 ≡ number_at 4 s at
+  cut_first = word_take (at + short_header - at) (drop at s) 0 (omega arith)
+
+  cut_word : (o : ℕ) → o + 4 ≤ short_header → number_at 4 cut o ≡ number_at 4 s (at + o)
+  cut_word o l = word_take (at + short_header - at) (drop at s) o (omega arith) ∙ ap (number 4) (drop-drop o at s)
+
+  pub magic_cut : (b : Bool) → b ≡ eqb (number_at 4 cut 0) header_magic → eqb (number_at 4 s at) header_magic ≡ b
+  magic_cut b e = sym (rw cut_first at e)
+
+  pub sum_cut : (b : Bool) → b ≡ sum_is_zero (number_at 4 cut 0) (number_at 4 cut 4) (number_at 4 cut 8) → sum_is_zero (number_at 4 s at) (number_at 4 s (at + 4)) (number_at 4 s (at + 8)) ≡ b
+  sum_cut b e = sym (rw (cut_first, cut_word 4 (omega arith), cut_word 8 (omega arith)) at e)
 
 -- how many of the first n places have a false header
 abbrev false_among : List ℕ → ℕ → ℕ

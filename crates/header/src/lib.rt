@@ -39,9 +39,7 @@ pub fn has_magic(s: &[u8], at: usize) -> bool
     number::read_u32(s, at) == HEADER_MAGIC
 }
 
-// Whether magic, flags and checksum at the offset `at`, summed modulo 2^32, give 0. It is not inlined: a search that calls nothing
-// may keep values below the stack pointer, which boot code must not.
-#[inline(never)]
+// Whether magic, flags and checksum at the offset `at`, summed modulo 2^32, give 0.
 fn sums_to_zero(s: &[u8], at: usize) -> bool
     requires { at + short_header < 2 ^ 64 }
     ensures { result ≡ sum_is_zero (number_at 4 s.now at) (number_at 4 s.now (at + 4)) (number_at 4 s.now (at + 8)) }
@@ -53,15 +51,18 @@ fn sums_to_zero(s: &[u8], at: usize) -> bool
 }
 
 // The lowest header in the bytes of a searched part, and how many false headers stand below it.
-#[tactic(auto, using(crate::proofs::TurnLaws::passed_start, crate::proofs::TurnLaws::passed_found, crate::proofs::TurnLaws::passed_all))]
+#[tactic(auto, using(crate::proofs::TurnLaws::passed_start, crate::proofs::TurnLaws::passed_found, crate::proofs::TurnLaws::magic_cut, crate::proofs::TurnLaws::sum_cut, crate::proofs::TurnLaws::passed_all))]
 fn first_header(s: &[u8]) -> Searched
     requires { length s.now ≤ search_limit }
     ensures { result ≡ searched s.now }
 {
     let mut passed = 0;
-    for at in (0..s.len().saturating_sub(SHORT_HEADER - 1)).step_by(STEP) {
-        if has_magic(s, at) {
-            if sums_to_zero(s, at) {
+    for place in 0..s.len().saturating_sub(SHORT_HEADER - STEP) / STEP {
+        let at = STEP * place;
+        // Of a slice of known length the reads need no tests.
+        let words = &s[at..at + SHORT_HEADER];
+        if has_magic(words, 0) {
+            if sums_to_zero(words, 0) {
                 return Searched {
                     header: Some(ImageOffset(at)),
                     false_headers: passed,
