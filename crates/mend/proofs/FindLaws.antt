@@ -1,59 +1,75 @@
--- What `find` answers over the multiples of 4 below a number, and that it is the lowest magic.
---     item             the multiple that comes at a place
---     none_below       no multiple passed
---     first_below      none passed before the one found
---     lowest_found     the lowest magic is found
+-- What `position` answers over every fourth window of the searched part, and that it is the lowest magic.
+--     there           an item that comes
+--     told            what the closure tells of the place k
+--     none_told       no place has the magic
+--     lowest_found    the lowest magic is found
 -- Assumes nothing.
-use Rattle.std.proofs.Common.{◌≡◌, ℕ, ◌+◌, ◌-◌, ◌*◌, ◌<◌, ◌≤◌, min, Bool, true, false, List, length, sym, ap, ◌∙◌, ⊎_elim, arith, eqb-true, ◌==◌}
+use Rattle.std.proofs.Common.{◌≡◌, ℕ, ◌+◌, ◌-◌, ◌*◌, ◌<◌, ◌≤◌, min, Bool, true, false, List, length, take, drop, get_or, sym, refl, ap, ◌∙◌, ⊎_elim, arith, eqb-true, length-take, ◌==◌}
 use Rattle.std.specs.Prelude.{Option, Some, None, MatchOption}
 use Rattle.std.specs.Bool.{IsTrue}
-use Rattle.std.specs.Option.{option_map}
-use Rattle.std.specs.Fn.{CalledAt}
-use Rattle.std.specs.Iterator.Runs.{Run, AllItems, AllItemsBelow, IsStepByRun, ItemsCountUp, CallKeepsClosure, NoItemPasses, EndsAtFirstPassing}
-use Rattle.std.proofs.lemmas.Option.{same_Some}
-use Rattle.std.proofs.lemmas.Iterator.Adapters.{option_map_id}
+use Rattle.std.specs.Option.{option_map, is_some, IfSome, IsSomeAnd}
+use Rattle.std.specs.Fn.{Called}
+use Rattle.std.specs.Iterator.Runs.{Run, IsStepByRun, IsWindowsRun, CallKeepsClosure, AllItemsGive, IsFirstToGive}
+use Rattle.std.proofs.lemmas.Bool.{false≢true}
 use denote.Ref.{Bor}
 use denote.Param.Members.{Mut}
 use Rattle.laws.proofs.TestLaws.{lt_or_le}
-use Rattle.number.specs.Number.{number_at}
+use Rattle.number.specs.Number.{number, number_at}
 use Rattle.address.specs.declared.ImageOffset.{ImageOffset}
 use Rattle.header.specs.Header.{header_magic, search_limit, short_header}
 use Rattle.header.specs.HeaderAt.{MagicAt}
+use Rattle.header.proofs.HeaderLaws.{word_take}
 use Rattle.header.proofs.RoomLaws.{past_end, past_limit}
 use Rattle.mend.specs.Mend.{lowest_magic}
 use Rattle.mend.proofs.MagicLaws.{magic_is, no_magic, without_room, magic_found, magic_none}
 
--- the run p takes every fourth item of q, which counts up from 0 to n
-module _ {S T : Type 0} {steps : S → Option ℕ → S → Type 0} {source : T → Option ℕ → T → Type 0} (p : Run steps) (q : Run source) (n : ℕ) (walk : IsStepByRun p q 4) (up : ItemsCountUp q 0 n) where
-  item : (k : ℕ) → k < p.len → p.at k ≡ Some (4 * k)
-  item k l =
-      let e : 0 + k * 4 ≡ 4 * k = omega arith in
-      walk.4 k ∙ (rw option_map_id at (up.3 (k * 4) (omega (arith, walk.3))) ∙ ap Some e)
+there : (o : Option (Bor (List ℕ))) (P : Bor (List ℕ) → Type 0) (m : ℕ) → option_map (λ x. get_or x.now 0 0) o ≡ Some m → IfSome o P → IsSomeAnd o P
+there None P m e h = absurd (false≢true (ap is_some e))
+there (Some x) P m e h = h
 
-  none_below : (No : ℕ → Type 0) → p.whole ≡ true → AllItems p No → (k : ℕ) → 4 * k < n → No (4 * k)
-  none_below No w all k l = rw (item k (omega (arith, walk.2, up.1 (walk.0 ∙ w)))) at (all k)
+-- the run p takes every fourth item of q, the windows of z bytes, which are 12, in the first n bytes of the image
+module _ {S T : Type 0} {steps : S → Option (Bor (List ℕ)) → S → Type 0} {source : T → Option (Bor (List ℕ)) → T → Type 0} (p : Run steps) (q : Run source) (image : List ℕ) (n : ℕ) (end : n ≡ min (length image) search_limit) (walk : IsStepByRun p q 4) (z : ℕ) (wide : z ≡ short_header) (views : IsWindowsRun q z (take n image)) where
+  size : length (take n image) ≡ n
+  size = simp length-take (omega (arith, end))
 
-  first_below : (No : ℕ → Type 0) (i : ℕ) → i < p.len → AllItemsBelow p i No → (k : ℕ) → k < i → No (4 * k)
-  first_below No i m all k l = rw (item k (omega arith)) at (all k l)
+  word_is : (k : ℕ) (l : List ℕ) → l ≡ take z (drop (k * 4) (take n image)) → k * 4 + short_header ≤ n → number_at 4 l 0 ≡ number_at 4 image (4 * k)
+  word_is k l e m =
+      let f : k * 4 ≡ 4 * k = omega arith in
+      ap (number 4) e
+      ∙ word_take z (drop (k * 4) (take n image)) 0 (omega arith)
+      ∙ word_take n image (k * 4) (omega arith)
+      ∙ ap (number_at 4 image) f
 
-  -- n leaves room for a header in the searched part of the image, and the closure f tests for the magic
-  module _ {F : Type 0} (g : Mut F (Bor ℕ × Unit {0}) Bool) (f : F) (keeps : CallKeepsClosure g f) (image : List ℕ) (room : n ≡ min (length image) search_limit - 11) (tells : (x : ℕ) (b : Bool) → CalledAt g f x b f → b ≡ (number_at 4 image x == header_magic)) where
-    pub lowest_found : (r : Option ℕ) → MatchOption r (IsTrue p.whole × NoItemPasses p g f) (EndsAtFirstPassing p g f) → ◌≡◌ {A = Option ImageOffset} (option_map (λ x. record { 0 = x }) r) (lowest_magic image)
+  -- the closure f tests for the magic
+  module _ {F : Type 0} (g : Mut F (Bor (List ℕ) × Unit {0}) Bool) (f : F) (keeps : CallKeepsClosure g f) (tells : (x : Bor (List ℕ)) (b : Bool) → Called g f (x, tt) b f → b ≡ (number_at 4 x.now 0 == header_magic)) where
+    told : (k : ℕ) (b : Bool) (o : Option (Bor (List ℕ))) → p.at k ≡ o → IsSomeAnd o (λ x. Called g f (x, tt) b f) → ((number_at 4 image (4 * k) == header_magic) ≡ b) × (4 * k + short_header ≤ n)
+    told k b None e h = absurd h
+    told k b (Some x) e h =
+        let v = rw (sym (walk.4 k) ∙ e) at (views.2 (k * 4)) in
+        let m : k * 4 + short_header ≤ n = omega (arith, v.1, size, wide) in
+        (sym (tells x b h ∙ ap (λ (w : ℕ). w == header_magic) (word_is k x.now v.2.0 m)), omega arith)
+
+    none_told : p.whole ≡ true → AllItemsGive p g f false → (k : ℕ) → 4 * k + short_header ≤ n → (number_at 4 image (4 * k) == header_magic) ≡ false
+    none_told w all k l =
+        let whole : q.len ≡ length (take n image) + 1 - z = views.1 (walk.0 ∙ w) in
+        let m : k * 4 < q.len = omega (arith, size, wide) in
+        (told k false (p.at k) refl (there (p.at k) _ _ (ap (option_map (λ x. get_or x.now 0 0)) (walk.4 k) ∙ views.3 (k * 4) 0 m) (all keeps k))).0
+
+    pub lowest_found : (r : Option ℕ) → MatchOption r (IsTrue p.whole × AllItemsGive p g f false) (λ i. (p.len ≡ i + 1) × IsFirstToGive p g f true false i) → ◌≡◌ {A = Option ImageOffset} (option_map (λ k. record { 0 = 4 * k }) r) (lowest_magic image)
     lowest_found None h =
         magic_none image
         (λ j.
         ⊎_elim
-        (λ (l : 4 * j < n). no_magic image (4 * j) (sym (tells _ _ (none_below (λ x. CalledAt g f x false f) h.0 (h.1 keeps) j l))))
-        (λ (l : n ≤ 4 * j).
+        (λ (l : n < 4 * j + short_header).
         without_room image (4 * j)
         (⊎_elim
         (λ (m : length image < 4 * j + short_header). past_end image (4 * j) m)
         (λ (m : 4 * j + short_header ≤ length image). past_limit image (4 * j) (omega arith))
         (lt_or_le (length image) (4 * j + short_header))))
-        (lt_or_le (4 * j) n))
-    lowest_found (Some x) h =
-        let i = h.0 in
-        let e : x ≡ 4 * i = same_Some _ _ (sym h.2 ∙ item i (omega (arith, h.1))) in
-        let t = rw e at (h.3 keeps).0 in
-        let m : MagicAt image (4 * i) = record { multiple = omega arith; whole = omega (arith, walk.3, up.0, h.1); early = omega (arith, walk.3, up.0, h.1); marked = eqb-true _ _ (sym (tells _ _ t)) } in
-        rw e (magic_found image i ((magic_is image (4 * i) (omega arith)).1 m) (λ j l. no_magic image (4 * j) (sym (tells _ _ (first_below (λ y. CalledAt g f y false f) i (omega (arith, h.1)) (h.3 keeps).1 j l)))))
+        (λ (l : 4 * j + short_header ≤ n). no_magic image (4 * j) (none_told h.0 h.1 j l))
+        (lt_or_le n (4 * j + short_header)))
+    lowest_found (Some i) h =
+        let first = h.1 keeps in
+        let t = told i true (p.at i) refl first.0 in
+        let m : MagicAt image (4 * i) = record { multiple = omega arith; whole = omega (arith, t.1, end); early = omega (arith, t.1, end); marked = eqb-true _ _ t.0 } in
+        magic_found image i ((magic_is image (4 * i) (omega arith)).1 m) (λ j l. no_magic image (4 * j) (told j false (p.at j) refl (first.1 j l)).0)

@@ -68,10 +68,11 @@ fn lowest_magic(image: &[u8]) -> Option<ImageOffset>
     ensures { result ≡ lowest_magic image.now }
 {
     let end = header::searched_end(image.len());
-    (0..end.saturating_sub(SHORT_HEADER - 1))
+    let place = image[..end]
+        .windows(SHORT_HEADER)
         .step_by(STEP)
-        .find(|&at| header::has_magic(image, at))
-        .map(ImageOffset)
+        .position(|words| header::has_magic(words, 0))?;
+    Some(ImageOffset(STEP * place))
 }
 
 // The checksum at the magic at an offset, as it stands and as it has to be.
