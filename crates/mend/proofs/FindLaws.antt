@@ -1,5 +1,6 @@
 -- What `position` answers over every fourth window of the searched part, and that it is the lowest magic.
 --     there           an item that comes
+--     size, word_is   the searched part, and the magic's word in a window
 --     told            what the closure tells of the place k
 --     none_told       no place has the magic
 --     lowest_found    the lowest magic is found
