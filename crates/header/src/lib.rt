@@ -57,6 +57,7 @@ fn first_header(s: &[u8]) -> Searched
     ensures { result ≡ searched s.now }
 {
     let mut passed = 0;
+    // At each of these places there is room for a header.
     for place in 0..s.len().saturating_sub(SHORT_HEADER - STEP) / STEP {
         let at = STEP * place;
         // Of a slice of known length the reads need no tests.
