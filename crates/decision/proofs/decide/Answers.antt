@@ -3,7 +3,9 @@
 use Rattle.std.specs.Prelude.{◌≡◌, Ok, Err}
 use Rattle.std.proofs.Common.{arith, sym, ◌∙◌, rules}
 use Rattle.std.proofs.lemmas.Result.{err_from_is_err_and}
+use Rattle.laws.specs.Checks.{first_of}
 use Rattle.submission.specs.Parse.{parsed_submission}
+use Rattle.board.specs.Window.{window_checks, window_span}
 use Rattle.memory_map.specs.Parse.{parsed_map}
 use Rattle.image.specs.Judge.{judged}
 use Rattle.decision.specs.Lent.{Lent, lent}
@@ -42,21 +44,21 @@ returns-in_err-window-clause-value c =
     let s : parsed_submission c.args.submission.now ≡ Ok c.read_into.new.room = read_given _ _ _ _ c.read_into.ensures.value.2 (search rules) _ c.in_ok-read_into.was in
     let o = sym c.check_operator.ensures ∙ c.in_ok-check_operator.was in
     let p = err_from_is_err_and c.from_residual-in_err-window.result c.from_residual-in_err-window.ensures.1 in
-    rw (p.1, p.2) (window_refused x _ s _ o _ (sym c.check_window.ensures ∙ c.in_err-window.was)).0
+    rw (p.1, p.2) (window_refused x _ s _ o c.in_err-window.field-0.0 (search rules)).0
 
 pub returns-in_err-window-clause-plan_after : goal.returns-in_err-window-clause-plan_after
 returns-in_err-window-clause-plan_after c =
     let x : Lent = lent c.args.submission.now c.args.operator.now c.args.map.now c.args.first c.args.size in
     let s : parsed_submission c.args.submission.now ≡ Ok c.read_into.new.room = read_given _ _ _ _ c.read_into.ensures.value.2 (search rules) _ c.in_ok-read_into.was in
     let o = sym c.check_operator.ensures ∙ c.in_ok-check_operator.was in
-    c.none.ensures ∙ (window_refused x _ s _ o _ (sym c.check_window.ensures ∙ c.in_err-window.was)).1
+    c.none.ensures ∙ (window_refused x _ s _ o c.in_err-window.field-0.0 (search rules)).1
 
 pub returns-in_err-read_into-2-clause-value : goal.returns-in_err-read_into-2-clause-value
 returns-in_err-read_into-2-clause-value c =
     let x : Lent = lent c.args.submission.now c.args.operator.now c.args.map.now c.args.first c.args.size in
     let s : parsed_submission c.args.submission.now ≡ Ok c.read_into.new.room = read_given _ _ _ _ c.read_into.ensures.value.2 (search rules) _ c.in_ok-read_into.was in
     let o = sym c.check_operator.ensures ∙ c.in_ok-check_operator.was in
-    let w = sym c.check_window.ensures ∙ c.in_ok-window.was in
+    let w : first_of (window_checks c.args.first c.args.size) (window_span c.args.first c.args.size) ≡ Ok c.in_ok-window.window = search rules in
     let p = err_from_is_err_and c.from_residual-in_err-read_into-2.result c.from_residual-in_err-read_into-2.ensures.1 in
     let r : parsed_map c.args.map.now ≡ Err c.in_err-read_into-2.field-0.0 = read_refused _ _ _ _ c.read_into-2.ensures.value.2 (search rules) _ c.in_err-read_into-2.was in
     rw (p.1, p.2) (map_refused x _ s _ o _ w _ r).0
@@ -66,7 +68,7 @@ returns-in_err-read_into-2-clause-plan_after c =
     let x : Lent = lent c.args.submission.now c.args.operator.now c.args.map.now c.args.first c.args.size in
     let s : parsed_submission c.args.submission.now ≡ Ok c.read_into.new.room = read_given _ _ _ _ c.read_into.ensures.value.2 (search rules) _ c.in_ok-read_into.was in
     let o = sym c.check_operator.ensures ∙ c.in_ok-check_operator.was in
-    let w = sym c.check_window.ensures ∙ c.in_ok-window.was in
+    let w : first_of (window_checks c.args.first c.args.size) (window_span c.args.first c.args.size) ≡ Ok c.in_ok-window.window = search rules in
     let r : parsed_map c.args.map.now ≡ Err c.in_err-read_into-2.field-0.0 = read_refused _ _ _ _ c.read_into-2.ensures.value.2 (search rules) _ c.in_err-read_into-2.was in
     c.none.ensures ∙ (map_refused x _ s _ o _ w _ r).1
 
@@ -75,7 +77,7 @@ returns-in_err-read_into-3-clause-value c =
     let x : Lent = lent c.args.submission.now c.args.operator.now c.args.map.now c.args.first c.args.size in
     let s : parsed_submission c.args.submission.now ≡ Ok c.read_into.new.room = read_given _ _ _ _ c.read_into.ensures.value.2 (search rules) _ c.in_ok-read_into.was in
     let o = sym c.check_operator.ensures ∙ c.in_ok-check_operator.was in
-    let w = sym c.check_window.ensures ∙ c.in_ok-window.was in
+    let w : first_of (window_checks c.args.first c.args.size) (window_span c.args.first c.args.size) ≡ Ok c.in_ok-window.window = search rules in
     let m : parsed_map c.args.map.now ≡ Ok c.read_into-2.new.room = read_given _ _ _ _ c.read_into-2.ensures.value.2 (search rules) _ c.in_ok-read_into-2.was in
     let p = err_from_is_err_and c.from_residual-in_err-read_into-3.result c.from_residual-in_err-read_into-3.ensures.1 in
     let r : judged c.bytes_of-image.result.now ≡ Err c.in_err-read_into-3.field-0.0 = read_refused _ _ _ _ c.read_into-3.ensures.value.2 (search rules) _ c.in_err-read_into-3.was in
@@ -86,7 +88,7 @@ returns-in_err-read_into-3-clause-plan_after c =
     let x : Lent = lent c.args.submission.now c.args.operator.now c.args.map.now c.args.first c.args.size in
     let s : parsed_submission c.args.submission.now ≡ Ok c.read_into.new.room = read_given _ _ _ _ c.read_into.ensures.value.2 (search rules) _ c.in_ok-read_into.was in
     let o = sym c.check_operator.ensures ∙ c.in_ok-check_operator.was in
-    let w = sym c.check_window.ensures ∙ c.in_ok-window.was in
+    let w : first_of (window_checks c.args.first c.args.size) (window_span c.args.first c.args.size) ≡ Ok c.in_ok-window.window = search rules in
     let m : parsed_map c.args.map.now ≡ Ok c.read_into-2.new.room = read_given _ _ _ _ c.read_into-2.ensures.value.2 (search rules) _ c.in_ok-read_into-2.was in
     let r : judged c.bytes_of-image.result.now ≡ Err c.in_err-read_into-3.field-0.0 = read_refused _ _ _ _ c.read_into-3.ensures.value.2 (search rules) _ c.in_err-read_into-3.was in
     c.none.ensures ∙ (image_refused x _ s _ o _ w _ m _ c.bytes_of-image.ensures _ r).1
@@ -96,7 +98,7 @@ block_length-length-requires c =
     let x : Lent = lent c.args.submission.now c.args.operator.now c.args.map.now c.args.first c.args.size in
     let s : parsed_submission c.args.submission.now ≡ Ok c.read_into.new.room = read_given _ _ _ _ c.read_into.ensures.value.2 (search rules) _ c.in_ok-read_into.was in
     let o = sym c.check_operator.ensures ∙ c.in_ok-check_operator.was in
-    let w = sym c.check_window.ensures ∙ c.in_ok-window.was in
+    let w : first_of (window_checks c.args.first c.args.size) (window_span c.args.first c.args.size) ≡ Ok c.in_ok-window.window = search rules in
     let m : parsed_map c.args.map.now ≡ Ok c.read_into-2.new.room = read_given _ _ _ _ c.read_into-2.ensures.value.2 (search rules) _ c.in_ok-read_into-2.was in
     let k : judged c.bytes_of-image.result.now ≡ Ok c.read_into-3.new.room = read_given _ _ _ _ c.read_into-3.ensures.value.2 (search rules) _ c.in_ok-read_into-3.was in
     let a = stages_known x _ s _ o _ w _ m _ c.bytes_of-image.ensures _ k in
@@ -108,7 +110,7 @@ decide_memory-requires c =
     let x : Lent = lent c.args.submission.now c.args.operator.now c.args.map.now c.args.first c.args.size in
     let s : parsed_submission c.args.submission.now ≡ Ok c.read_into.new.room = read_given _ _ _ _ c.read_into.ensures.value.2 (search rules) _ c.in_ok-read_into.was in
     let o = sym c.check_operator.ensures ∙ c.in_ok-check_operator.was in
-    let w = sym c.check_window.ensures ∙ c.in_ok-window.was in
+    let w : first_of (window_checks c.args.first c.args.size) (window_span c.args.first c.args.size) ≡ Ok c.in_ok-window.window = search rules in
     let m : parsed_map c.args.map.now ≡ Ok c.read_into-2.new.room = read_given _ _ _ _ c.read_into-2.ensures.value.2 (search rules) _ c.in_ok-read_into-2.was in
     let k : judged c.bytes_of-image.result.now ≡ Ok c.read_into-3.new.room = read_given _ _ _ _ c.read_into-3.ensures.value.2 (search rules) _ c.in_ok-read_into-3.was in
     let a = stages_known x _ s _ o _ w _ m _ c.bytes_of-image.ensures _ k in
@@ -120,7 +122,7 @@ returns-clause-value c =
     let x : Lent = lent c.args.submission.now c.args.operator.now c.args.map.now c.args.first c.args.size in
     let s : parsed_submission c.args.submission.now ≡ Ok c.read_into.new.room = read_given _ _ _ _ c.read_into.ensures.value.2 (search rules) _ c.in_ok-read_into.was in
     let o = sym c.check_operator.ensures ∙ c.in_ok-check_operator.was in
-    let w = sym c.check_window.ensures ∙ c.in_ok-window.was in
+    let w : first_of (window_checks c.args.first c.args.size) (window_span c.args.first c.args.size) ≡ Ok c.in_ok-window.window = search rules in
     let m : parsed_map c.args.map.now ≡ Ok c.read_into-2.new.room = read_given _ _ _ _ c.read_into-2.ensures.value.2 (search rules) _ c.in_ok-read_into-2.was in
     let k : judged c.bytes_of-image.result.now ≡ Ok c.read_into-3.new.room = read_given _ _ _ _ c.read_into-3.ensures.value.2 (search rules) _ c.in_ok-read_into-3.was in
     let a = stages_known x _ s _ o _ w _ m _ c.bytes_of-image.ensures _ k in
@@ -132,7 +134,7 @@ returns-clause-plan_after c =
     let x : Lent = lent c.args.submission.now c.args.operator.now c.args.map.now c.args.first c.args.size in
     let s : parsed_submission c.args.submission.now ≡ Ok c.read_into.new.room = read_given _ _ _ _ c.read_into.ensures.value.2 (search rules) _ c.in_ok-read_into.was in
     let o = sym c.check_operator.ensures ∙ c.in_ok-check_operator.was in
-    let w = sym c.check_window.ensures ∙ c.in_ok-window.was in
+    let w : first_of (window_checks c.args.first c.args.size) (window_span c.args.first c.args.size) ≡ Ok c.in_ok-window.window = search rules in
     let m : parsed_map c.args.map.now ≡ Ok c.read_into-2.new.room = read_given _ _ _ _ c.read_into-2.ensures.value.2 (search rules) _ c.in_ok-read_into-2.was in
     let k : judged c.bytes_of-image.result.now ≡ Ok c.read_into-3.new.room = read_given _ _ _ _ c.read_into-3.ensures.value.2 (search rules) _ c.in_ok-read_into-3.was in
     let a = stages_known x _ s _ o _ w _ m _ c.bytes_of-image.ensures _ k in
