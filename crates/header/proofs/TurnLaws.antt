@@ -20,7 +20,7 @@ use Rattle.header.proofs.FalseHeaderLaws.{false_here, no_magic, no_room}
 use Rattle.header.proofs.WalkLaws.{found_at, passed_at, none_left, whole_image}
 
 module _ (s : List ℕ) (at : ℕ) where
-  -- the bytes of a header at the offset `at`, as the search cuts them out
+  -- the bytes of a header at the offset `at`, in the form that the search's slice has
   abbrev cut : List ℕ
   cut = take (at + short_header - at) (drop at s)
 

@@ -60,10 +60,10 @@ fn first_header(s: &[u8]) -> Searched
     // At each of these places there is room for a header.
     for place in 0..s.len().saturating_sub(SHORT_HEADER - STEP) / STEP {
         let at = STEP * place;
-        // Of a slice of known length the reads need no tests.
-        let words = &s[at..at + SHORT_HEADER];
-        if has_magic(words, 0) {
-            if sums_to_zero(words, 0) {
+        // The compiler knows this slice's length, and drops the tests of the reads.
+        let bytes = &s[at..at + SHORT_HEADER];
+        if has_magic(bytes, 0) {
+            if sums_to_zero(bytes, 0) {
                 return Searched {
                     header: Some(ImageOffset(at)),
                     false_headers: passed,

@@ -1,7 +1,7 @@
 // The kernel that an image asks for: a list of segments, whatever kind of image it stands in.
 #![tactic(auto)]
 
-ghost use Rattle.std.specs.Prelude.{◌≡◌, ◌+◌, ◌≤◌, ◌<◌};
+ghost use Rattle.std.specs.Prelude.{◌≡◌, ◌≤◌, ◌<◌};
 ghost use Rattle.kernel.specs.Kernel.{max_segments, no_segment, no_kernel};
 ghost use Rattle.kernel.specs.Checks.{entry_outside, overlaps_earlier, extents_overlap};
 ghost use Rattle.kernel.specs.Judge.{with_entry};

@@ -1,6 +1,6 @@
 -- What `position` answers over every fourth window of the searched part, and that it is the lowest magic.
---     there           an item that comes
---     size, word_is   the searched part, and the magic's word in a window
+--     there           where an item comes, what holds of it
+--     size, word_is   the length of the searched part, and the magic's word in a window
 --     given           what the closure gives for the place k
 --     none_given      no place has the magic
 --     lowest_found    the lowest magic is found

@@ -71,7 +71,7 @@ fn lowest_magic(image: &[u8]) -> Option<ImageOffset>
     let place = image[..end]
         .windows(SHORT_HEADER)
         .step_by(STEP)
-        .position(|words| header::has_magic(words, 0))?;
+        .position(|bytes| header::has_magic(bytes, 0))?;
     Some(ImageOffset(STEP * place))
 }
 
